@@ -1,0 +1,75 @@
+// Files that are read up to a limit, and the check of both files of a run.
+use crate::census::Census;
+use crate::census::Kinds;
+use crate::limits::check_events_part;
+use crate::limits::check_part;
+use rights::Refusal;
+use std::fs;
+use std::io;
+use std::io::Read;
+use std::rt::Files;
+ghost use mathlib.Core.Bool.{true};
+ghost use mathlib.Core.Path.{_≡_};
+ghost use Prim.Native.Nat.{_≤_};
+ghost use lib.Dec.{ltb};
+ghost use lib.ListN.{take};
+ghost use Rattle.image.specs.Limits as limits;
+ghost use Rattle.std.specs.Of.Vec.{vec-items, vec-len};
+ghost use Rattle.std.specs.Vec.{made};
+
+// The first bytes of a file, and whether it goes on beyond them.
+#[derive(Drop)]
+pub struct Part {
+    pub bytes: Vec<u8>,
+    pub more: bool,
+}
+
+impl Part {
+    // At most how many bytes of an image are looked at.
+    pub const IMAGE: usize = 2_097_152;
+
+    // At most how many bytes of events.
+    pub const EVENTS: usize = 1_048_576;
+
+    // The first `limit` bytes of some.
+    pub fn first(limit: usize, mut bytes: Vec<u8>) -> Part
+        ensures bytes { λ r. ⌜ vec-items (r .bytes) ≡ take limit (vec-items bytes) ⌝ }
+        ensures within { λ r. ⌜ vec-len (r .bytes) ≤ limit ⌝ }
+        ensures full { λ r. ⌜ (r .more ≡ true → vec-len (r .bytes) ≡ limit) ⌝ }
+        ensures more { λ r. ⌜ r .more ≡ ltb limit (vec-len bytes) ⌝ }
+    {
+        let more = limit < bytes.len();
+        bytes.truncate(limit);
+        Part { bytes, more }
+    }
+
+    // Reads the first `limit` bytes of a file, and looks whether there is one more.
+    pub fn read<R: Files + Alloc<A = std::alloc::Global>>(
+        rt: &R,
+        path: &str,
+        limit: usize,
+    ) -> io::Result<Part>
+        ensures { λ r. ⌜ made r (λ p. (vec-len (p .bytes) ≤ limit) × (p .more ≡ true → vec-len (p .bytes) ≡ limit)) ⌝ }
+    {
+        let mut bytes = Vec::new(rt.alloc());
+        let file = fs::open(rt, path)?;
+        file.take((limit as u64).saturating_add(1))
+            .read_to_end(&mut bytes)?;
+        Ok(Part::first(limit, bytes))
+    }
+}
+
+// Whether an image and its events are taken: first what is wrong with the image, then with the
+// events.
+pub fn check_files(
+    kinds: Kinds,
+    image: &Part,
+    events: &Part,
+    frames: u32,
+) -> Result<Census, Refusal>
+    ensures { λ r. ⌜ r ≡ limits.both kinds frames (now (image .entry) .more) (vec-items (now (image .entry) .bytes)) (now (events .entry) .more) (vec-items (now (events .entry) .bytes)) ⌝ }
+{
+    let census = check_part(kinds, &image.bytes, image.more, frames)?;
+    check_events_part(&image.bytes, &events.bytes, events.more)?;
+    Ok(census)
+}
