@@ -4,3 +4,6 @@ pub mod Layout
 pub mod Verdict
 pub mod Events
 pub mod Limits
+pub mod Apart
+pub mod Prefix
+pub mod Instances
