@@ -20,6 +20,9 @@ pub enum Kinds {
 }
 
 impl Kinds {
+    // Those that the kernel has so far.
+    pub const BUILT: Kinds = Kinds::Thin;
+
     pub fn lets_in(self, kind: Kind) -> bool
         ensures { λ r. ⌜ r ≡ format.lets-in self kind ⌝ }
     {

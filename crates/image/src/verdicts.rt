@@ -33,5 +33,5 @@ pub fn check_kinds(kinds: Kinds, image: &[u8], frames: u32) -> Result<Census, Re
 pub fn check(image: &[u8], frames: u32) -> Result<Census, Refusal>
     ensures { λ r. ⌜ r ≡ verdict.verdict verdict.built frames (now (image .entry)) ⌝ }
 {
-    check_kinds(Kinds::Thin, image, frames)
+    check_kinds(Kinds::BUILT, image, frames)
 }

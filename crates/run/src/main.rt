@@ -1,13 +1,10 @@
 // run IMAGE EVENTS: takes an image and a row of events, or says by number and place why not.
-use image::Census;
 use image::Kinds;
 use image::Part;
 use image::check_files;
-use rights::Refusal;
 use rights::RefusalDisplay;
 use std::env;
 use std::error::AnyError;
-use std::io;
 
 // How many frames of 4,096 bytes are lent.
 const FRAMES: u32 = 1024;
@@ -27,7 +24,7 @@ fn run(rt: &LibcRuntime) -> Result<(), AnyError> {
     };
     let image = read(rt, &image, Part::IMAGE)?;
     let events = read(rt, &events, Part::EVENTS)?;
-    match check_files(Kinds::Thin, &image, &events, FRAMES) {
+    match check_files(Kinds::BUILT, &image, &events, FRAMES) {
         Err(refusal) => Ok(println!(rt, "{refusal}")?),
         Ok(_) =>
             Err("the image and its events are taken, but carrying out events is not built yet".into()),
@@ -35,5 +32,9 @@ fn run(rt: &LibcRuntime) -> Result<(), AnyError> {
 }
 
 fn main(rt: LibcRuntime) -> Result<(), AnyError> {
-    rt.report(run(&rt))
+    let result = run(&rt);
+    if let Err(e) = &result {
+        let _ = eprintln!(rt, "run: {e}");
+    }
+    result
 }
