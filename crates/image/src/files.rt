@@ -25,12 +25,6 @@ pub struct Part {
 }
 
 impl Part {
-    // At most how many bytes of an image are looked at.
-    pub const IMAGE: usize = 2_097_152;
-
-    // At most how many bytes of events.
-    pub const EVENTS: usize = 1_048_576;
-
     // The first `limit` bytes of some.
     pub fn first(limit: usize, mut bytes: Vec<u8>) -> Part
         ensures bytes { λ r. ⌜ vec-items (r .bytes) ≡ take limit (vec-items bytes) ⌝ }
@@ -56,6 +50,26 @@ impl Part {
         file.take((limit as u64).saturating_add(1))
             .read_to_end(&mut bytes)?;
         Ok(Part::first(limit, bytes))
+    }
+
+    // The first 2,097,152 bytes of an image.
+    pub fn read_image<R: Files + Alloc<A = std::alloc::Global>>(
+        rt: &R,
+        path: &str,
+    ) -> io::Result<Part>
+        ensures { λ r. ⌜ made r (λ p. (vec-len (p .bytes) ≤ 2097152) × (p .more ≡ true → vec-len (p .bytes) ≡ 2097152)) ⌝ }
+    {
+        Part::read(rt, path, 2_097_152)
+    }
+
+    // The first 1,048,576 bytes of a row of events.
+    pub fn read_events<R: Files + Alloc<A = std::alloc::Global>>(
+        rt: &R,
+        path: &str,
+    ) -> io::Result<Part>
+        ensures { λ r. ⌜ made r (λ p. (vec-len (p .bytes) ≤ 1048576) × (p .more ≡ true → vec-len (p .bytes) ≡ 1048576)) ⌝ }
+    {
+        Part::read(rt, path, 1_048_576)
     }
 }
 

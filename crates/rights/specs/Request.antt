@@ -11,7 +11,7 @@ use Rattle.rights.specs.declared.calls.Call.{Call}
 use Rattle.rights.specs.declared.calls.Call.the-variants.{Cut, Copy, Move, Drop, Revoke, Send, Receive, Map, Unmap, Bind, Go, Say, Hear}
 use Rattle.rights.specs.declared.calls.NewObject.{NewObject}
 use Rattle.rights.specs.declared.calls.NewObject.the-variants.{Pool, Table, Port, Page}
-use Rattle.rights.specs.Vocabulary.{rights-of, rights-from}
+use Rattle.rights.specs.Vocabulary.{four, rights-of, rights-from}
 use Rattle.rights.specs.World as world
 
 -- the row of a table with a number, or else the default
@@ -70,7 +70,7 @@ call-of (Copy s d r b) = world.copy s d (rights-of r) b
 call-of (Move s d) = world.move s d
 call-of (Drop s) = world.drop-it s
 call-of (Revoke s) = world.revoke s
-call-of (Send s g ws) = world.send s ws (leb g 4095) g
+call-of (Send s g ws) = world.send s (four ws) (leb g 4095) g
 call-of (Receive s d) = world.receive s d
 call-of (Map s t a) = world.map s t a
 call-of (Unmap t a) = world.unmap t a

@@ -49,7 +49,13 @@ rights-of r = rights-of-bits (r .bits)
 abbrev pub rights-from : ℕ → Option Rights
 rights-from n = cond (leb n 7) (Some (record { bits = n })) None
 
--- all three
+-- the rights in both, and all three
+abbrev pub met : Rights → Rights → Rights
+met a b = record { bits = bitAnd (a .bits) (b .bits) }
+
+abbrev pub all-three : Rights
+all-three = record { bits = 7 }
+
 abbrev pub everything : world.Rights
 everything = record { reads = true; writes = true; hands = true }
 
@@ -75,12 +81,16 @@ refusal-place (Event p) = p
 abbrev pub refusal-text : Refusal → List ℕ
 refusal-text r = codes "refused " ++ (decimal (refusal-number r) ++ (codes " at " ++ decimal (refusal-place r)))
 
+-- the four words of a message
+abbrev pub four : List ℕ → List ℕ
+four ws = getD ws 0 0 ∷ getD ws 1 0 ∷ getD ws 2 0 ∷ getD ws 3 0 ∷ []
+
 -- the words that come back
 abbrev pub words : Answer → List ℕ
 words No = world.no ∷ []
 words Done = 0 ∷ []
 words (Heard b) = 0 ∷ b ∷ []
-words (Received b ws) = 0 ∷ b ∷ getD ws 0 0 ∷ getD ws 1 0 ∷ getD ws 2 0 ∷ getD ws 3 0 ∷ []
+words (Received b ws) = 0 ∷ b ∷ four ws
 
 -- the word at a place, if there is one
 abbrev pub word-at : List ℕ → ℕ → Option ℕ

@@ -1,6 +1,5 @@
 // Rights as bits: 1 to read, 2 to write or send, 4 to hand on.
 ghost use mathlib.Core.Path.{_≡_};
-ghost use lib.Bits.{bitAnd};
 ghost use Rattle.rights.specs.Vocabulary as spec;
 ghost use Rattle.rights.specs.World as world;
 
@@ -28,7 +27,7 @@ impl Rights {
 
     // All three.
     pub fn all() -> Rights
-        ensures bits { λ r. ⌜ r .bits ≡ 7 ⌝ }
+        ensures value { λ r. ⌜ r ≡ spec.all-three ⌝ }
         ensures meaning { λ r. ⌜ spec.rights-of r ≡ spec.everything ⌝ }
     {
         Rights {
@@ -62,7 +61,7 @@ impl Rights {
 
     // The rights that are in both.
     pub fn meet(self, other: Rights) -> Rights
-        ensures bits { λ r. ⌜ r .bits ≡ bitAnd (self .bits) (other .bits) ⌝ }
+        ensures value { λ r. ⌜ r ≡ spec.met self other ⌝ }
         ensures meaning { λ r. ⌜ spec.rights-of r ≡ world.meet (spec.rights-of self) (spec.rights-of other) ⌝ }
     {
         Rights {

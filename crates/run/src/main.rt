@@ -5,13 +5,14 @@ use image::check_files;
 use rights::RefusalDisplay;
 use std::env;
 use std::error::AnyError;
+use std::io;
 
 // How many frames of 4,096 bytes are lent.
 const FRAMES: u32 = 1024;
 
-// The first bytes of a file, or a text that says which one cannot be read.
-fn read(rt: &LibcRuntime, path: &str, limit: usize) -> Result<Part, AnyError> {
-    match Part::read(rt, path, limit) {
+// What was read, or a text that says which file cannot be read.
+fn readable(rt: &LibcRuntime, path: &str, read: io::Result<Part>) -> Result<Part, AnyError> {
+    match read {
         Ok(part) => Ok(part),
         Err(e) => Err(format!(rt.alloc(), "cannot read {path}: {e}")?.into()),
     }
@@ -22,8 +23,8 @@ fn run(rt: &LibcRuntime) -> Result<(), AnyError> {
     let (Some(image), Some(events), None) = (args.next(), args.next(), args.next()) else {
         return Err("usage: run IMAGE EVENTS".into());
     };
-    let image = read(rt, &image, Part::IMAGE)?;
-    let events = read(rt, &events, Part::EVENTS)?;
+    let image = readable(rt, &image, Part::read_image(rt, &image))?;
+    let events = readable(rt, &events, Part::read_events(rt, &events))?;
     match check_files(Kinds::BUILT, &image, &events, FRAMES) {
         Err(refusal) => Ok(println!(rt, "{refusal}")?),
         Ok(_) =>

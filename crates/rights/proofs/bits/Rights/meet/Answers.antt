@@ -8,4 +8,4 @@ unfolding meet
 returns c =
     let a = c .args .self .bits in
     let b = c .args .other .bits in
-    record { bits = refl; meaning = simp (has-both-1 a b, has-both-2 a b, has-both-4 a b) }
+    record { value = refl; meaning = simp (has-both-1 a b, has-both-2 a b, has-both-4 a b) }

@@ -1,0 +1,75 @@
+// Limits on values: how many objects, threads and lines, which kinds, and which sizes.
+use crate::images::Objects;
+use crate::images::blank;
+use crate::outcome::Answers;
+use crate::outcome::TAKEN;
+use crate::outcome::Told;
+use crate::outcome::counts;
+use image::Kinds;
+use image::check;
+use image::check_kinds;
+use rights::Kind;
+use std::test::Fail;
+use std::test::check_eq;
+
+// Threads and lines: up to 64 and 32. The place is 6 + 3 × o for the first object too many.
+const MANY: &[(u16, u16, Told)] = &[
+    (65, 0, (3, 198)),
+    (65, 33, (3, 198)),
+    (64, 33, (3, 294)),
+    (0, 33, (3, 102)),
+    (64, 32, TAKEN),
+];
+
+#[test]
+fn threads_and_lines(rt: LibcRuntime) -> Result<(), Fail> {
+    let mut answers = Answers::new();
+    let mut last = None;
+    for &(threads, lines, expected) in MANY {
+        let rows = [
+            Objects(threads, Kind::Thread, 0),
+            Objects(lines, Kind::Line, 0),
+        ];
+        let image = blank(rt.alloc(), threads.saturating_add(lines), &rows)?;
+        let result = check(&image, 0);
+        answers.expect(result, expected);
+        last = counts(result);
+    }
+    check_eq(last, Some((96, 64, 32)))?;
+    answers.verdict()
+}
+
+// What is told of one object if all kinds are let in, and if pools and ports are not.
+const ONE: &[(Kind, u16, Told, Told)] = &[
+    (Kind::Pool, 1, TAKEN, (3, 6)),
+    (Kind::Pool, 4096, TAKEN, (3, 6)),
+    (Kind::Pool, 0, (3, 7), (3, 6)),
+    (Kind::Pool, 4097, (3, 7), (3, 6)),
+    (Kind::Pool, 65535, (3, 7), (3, 6)),
+    (Kind::Table, 1, TAKEN, TAKEN),
+    (Kind::Table, 4096, TAKEN, TAKEN),
+    (Kind::Table, 0, (3, 7), (3, 7)),
+    (Kind::Table, 4097, (3, 7), (3, 7)),
+    (Kind::Table, 65535, (3, 7), (3, 7)),
+    (Kind::Port, 0, TAKEN, (3, 6)),
+    (Kind::Port, 1, (3, 7), (3, 6)),
+    (Kind::Port, 65535, (3, 7), (3, 6)),
+    (Kind::Page, 0, TAKEN, TAKEN),
+    (Kind::Page, 1, (3, 7), (3, 7)),
+    (Kind::Thread, 0, TAKEN, TAKEN),
+    (Kind::Thread, 256, (3, 7), (3, 7)),
+    (Kind::Line, 0, TAKEN, TAKEN),
+    (Kind::Line, 65535, (3, 7), (3, 7)),
+];
+
+#[test]
+fn kinds_and_sizes(rt: LibcRuntime) -> Result<(), Fail> {
+    let mut answers = Answers::new();
+    for &(kind, size, all, thin) in ONE {
+        let image = blank(rt.alloc(), 1, &[Objects(1, kind, size)])?;
+        answers.expect(check_kinds(Kinds::All, &image, 4096), all);
+        answers.expect(check_kinds(Kinds::Thin, &image, 4096), thin);
+        answers.expect(check(&image, 4096), thin);
+    }
+    answers.verdict()
+}

@@ -1,0 +1,6 @@
+pub mod Reading
+mod Encoded
+mod Accounted
+mod Kept
+mod Reached
+mod Shown

@@ -1,0 +1,32 @@
+// The RV32I core: what one instruction does.
+mod arithmetic;
+mod decoding;
+mod forms;
+mod loads;
+mod registers;
+mod steps;
+mod theorems;
+
+pub use arithmetic::computed;
+pub use arithmetic::holds;
+pub use decoding::decode;
+pub use forms::Comparison;
+pub use forms::Instruction;
+pub use forms::Loading;
+pub use forms::Operation;
+pub use forms::Width;
+pub use loads::Memory;
+pub use loads::loaded;
+pub use registers::Cpu;
+pub use steps::Step;
+pub use steps::act;
+pub use theorems::accounts;
+pub use theorems::examples;
+pub use theorems::one_page;
+pub use theorems::reads_back;
+pub use theorems::reads_named;
+pub use theorems::starts_sound;
+pub use theorems::stays_sound;
+pub use theorems::stops_as_new;
+pub use theorems::stores_inside;
+pub use theorems::zero_register;
