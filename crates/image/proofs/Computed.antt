@@ -7,4 +7,4 @@ use Rattle.image.specs.Layout.{filled}
 
 pub met : Instances
 unfolding each filled events-from
-met = (refl, refl, refl, refl, refl, refl, refl, refl, refl)
+met = (refl, refl, refl, refl, refl, refl, refl, refl, refl, refl, refl, refl)

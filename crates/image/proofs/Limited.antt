@@ -22,7 +22,7 @@ use Rattle.image.specs.Fields.{one, two, Read, _then_, judged}
 use Rattle.image.specs.Format.{is-a}
 use Rattle.image.specs.Events.{event-of, event, events-from, events}
 use Rattle.image.specs.Limits.{going-on, part-verdict, cut-in-two, events-going-on, part-events}
-use Rattle.image.specs.Prefix.{Same-below, field-end, Limit-holds, Faults-told, event-end, Events-limit-holds, Event-faults-told}
+use Rattle.image.specs.Prefix.{Same-below, field-end, Limit-holds, Never-taken, Faults-told, event-end, Events-limit-holds, Event-faults-told}
 use Rattle.image.specs.Verdict.{verdict}
 use Rattle.image.proofs.Decided.{decided-early, goes-on, length-inside, never-event}
 
@@ -79,23 +79,42 @@ limit-holds ks frames limit file =
 
 -- a fault before the limit is the same for the first bytes
 seen-early : (ks : Kinds) (frames limit : ℕ) (file : List ℕ) (e : Refusal) → limit < length file → verdict ks frames file ≡ Err e → refusal-number e ≤ 4 →
-    field-end (two file 4) e ≤ limit → (refusal-number e ≡ 1 → field-end (two file 4) e < limit) → going-on (take limit file) (verdict ks frames (take limit file)) ≡ Err e
-seen-early ks frames limit file (Length p) l v n h one =
+    field-end (two file 4) e ≤ limit → going-on (take limit file) (verdict ks frames (take limit file)) ≡ Err e
+seen-early ks frames limit file (Length p) l v n h =
     let e = length-take-le limit file (omega arith) in
-    let o = one refl in
-    rw (goes-on ks frames frames p file (take limit file) v (omega arith) (omega (arith, e)) (same-first limit p file (omega arith) h)) refl
-seen-early ks frames limit file Magic l v n h one =
+    elim (cases-lt p limit) [
+      | inl o ↦ rw (goes-on ks frames frames p file (take limit file) v (omega arith) (omega (arith, e)) (same-first limit p file (omega arith) h)) refl
+      | inr o ↦
+          (let z : limit ≡ p = omega arith in
+          elim (limit-goes ks frames limit file l (verdict ks frames (take limit file)) refl) [ inl q ↦ q ∙ v | inr q ↦ q ∙ ap (λ k. Err (Length k)) z ])
+    ]
+seen-early ks frames limit file Magic l v n h =
     rw (decided-early ks frames frames file (take limit file) Magic v (omega arith) (omega arith) (same-first limit _ file (omega arith) h)) refl
-seen-early ks frames limit file (Value p) l v n h one =
+seen-early ks frames limit file (Value p) l v n h =
     rw (decided-early ks frames frames file (take limit file) (Value p) v (omega arith) (omega arith) (same-first limit _ file (omega arith) h)) refl
-seen-early ks frames limit file (Name p) l v n h one =
+seen-early ks frames limit file (Name p) l v n h =
     rw (decided-early ks frames frames file (take limit file) (Name p) v (omega arith) (omega arith) (same-first limit _ file (omega arith) h)) refl
-seen-early ks frames limit file (Frames f) l v n h one = absurd (omega arith)
-seen-early ks frames limit file (Event p) l v n h one = absurd (omega arith)
+seen-early ks frames limit file (Frames f) l v n h = absurd (omega arith)
+seen-early ks frames limit file (Event p) l v n h = absurd (omega arith)
 
 pub faults-told : Faults-told
-faults-told ks frames limit file e v n h one =
+faults-told ks frames limit file e v n h =
     elim (cases-lt limit (length file)) [
-      | inl l ↦ part-is ks frames limit file l ∙ seen-early ks frames limit file e l v n h one
+      | inl l ↦ part-is ks frames limit file l ∙ seen-early ks frames limit file e l v n h
       | inr l ↦ whole-is ks frames limit file l ∙ v
     ]
+
+never-by : (ks : Kinds) (frames limit : ℕ) (file : List ℕ) (r : Read Census) → verdict ks frames (take limit file) ≡ r →
+    (e : Refusal) × (going-on (take limit file) r ≡ Err e) × (refusal-number e ≤ 4)
+never-by ks frames limit file (Ok c) v = (Length (length (take limit file)), refl, omega arith)
+never-by ks frames limit file (Err (Length p)) v = (Length p, refl, omega arith)
+never-by ks frames limit file (Err Magic) v = (Magic, refl, omega arith)
+never-by ks frames limit file (Err (Value p)) v = (Value p, refl, omega arith)
+never-by ks frames limit file (Err (Name p)) v = (Name p, refl, omega arith)
+never-by ks frames limit file (Err (Frames f)) v = (Length (length (take limit file)), refl, omega arith)
+never-by ks frames limit file (Err (Event p)) v = absurd (never-event ks frames p (take limit file) v)
+
+pub never-taken : Never-taken
+never-taken ks frames limit file l =
+    let r = never-by ks frames limit file (verdict ks frames (take limit file)) refl in
+    (r .0, part-is ks frames limit file l ∙ r .1, r .2)

@@ -5,12 +5,16 @@ use mathlib.Core.List.{List}
 use Prim.Native.Nat.{ℕ, zero, suc, _+_, _-_, _*_, _/_, _%_, _≤_, _<_}
 use native.Mathlib.Omega.{arith}
 use lib.Dec.{eqb}
-use Rattle.std.proofs.shelf.Tests.{cond-both}
+use Rattle.std.proofs.shelf.Tests.{cond-both, eqb-true}
 use Rattle.std.proofs.shelf.Ways.{tells}
+use Rattle.std.specs.declared.option.Option.the-variants.{Some}
 use Rattle.rights.specs.World as world
-use Rattle.rights.specs.declared.kinds.Kind.the-variants.{Pool, Page}
-use Rattle.image.specs.Apart.{own-frames, Laid-out, Layout}
-use Rattle.image.specs.Format.{is-a}
+use Rattle.rights.specs.declared.kinds.Kind.{Kind}
+use Rattle.rights.specs.declared.kinds.Kind.the-variants.{Pool, Table, Port, Page, Thread, Line}
+use Rattle.rights.specs.Vocabulary.{kind-number}
+use Rattle.image.specs.Apart.{own-frames, Laid-out, board-sizes, as-cut, Lies-apart}
+use Rattle.image.specs.Fields.{one}
+use Rattle.image.specs.Format.{head-at, is-a, size-at}
 use Rattle.image.specs.Layout.{frame-up, begins, takes, filled, place, frames-for}
 
 -- the last of some objects, taken for itself
@@ -75,5 +79,23 @@ unit-filling : (u : ℕ) → 64 * u ≡ world.up-to 64 (64 * u)
 unfolding world.up-to
 unit-filling u = rw pick-is (grind (arith, tells))
 
-pub lying : Layout
-lying = (lies, frame-filling, unit-filling)
+-- kinds are told apart by their numbers
+is-kind : (bs : List ℕ) (o : ℕ) (k : Kind) → is-a bs o k ≡ true → one bs (head-at o) ≡ kind-number k
+is-kind bs o k e = eqb-true (one bs (head-at o)) (kind-number k) e
+
+as-cut-is : (bs : List ℕ) (o u : ℕ) (k : Kind) → is-a bs o k ≡ true → (w : world.Kind) → as-cut k (size-at bs o) ≡ Some w →
+    (64 * takes bs o ≡ world.cost board-sizes w) × (64 * begins bs o u ≡ world.up-to (world.step-of board-sizes w) (64 * u))
+unfolding world.cost world.step-of
+as-cut-is bs o u Pool e w h =
+    let q : world.a-pool (size-at bs o) ≡ w = cc in
+    rw (sym q, is-kind bs o Pool e) (omega arith, frame-filling u)
+as-cut-is bs o u Table e w h =
+    let q : world.a-table (size-at bs o) ≡ w = cc in
+    rw (sym q, is-kind bs o Table e) (omega arith, unit-filling u)
+as-cut-is bs o u Port e w h = let q : world.a-port ≡ w = cc in rw (sym q, is-kind bs o Port e) (refl, unit-filling u)
+as-cut-is bs o u Page e w h = let q : world.a-page ≡ w = cc in rw (sym q, is-kind bs o Page e) (refl, frame-filling u)
+as-cut-is bs o u Thread e w h = absurd (let z : _≡_ {A = ℕ} 0 1 = cc in omega arith)
+as-cut-is bs o u Line e w h = absurd (let z : _≡_ {A = ℕ} 0 1 = cc in omega arith)
+
+pub lying : Lies-apart
+lying = (lies, λ bs o u k w e h. as-cut-is bs o u k e w h)

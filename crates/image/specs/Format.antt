@@ -13,20 +13,18 @@ use Rattle.rights.specs.declared.refusals.Refusal.the-variants.{Magic, Value, N
 use Rattle.rights.specs.Vocabulary.{kind-number, kind-from}
 use Rattle.image.specs.declared.census.Census.{Census}
 use Rattle.image.specs.declared.census.Kinds.{Kinds}
-use Rattle.image.specs.declared.census.Kinds.the-variants.{Thin, All}
 use Rattle.image.specs.declared.content.Entry.{Entry}
 use Rattle.image.specs.declared.content.Entry.the-variants.{Slot, Mapping}
 use Rattle.image.specs.Fields.{one, two, Read, _then_, past, judged, given, each}
 
--- which kinds of objects an image may have
+-- which kinds of objects an image may have: tables, pages, threads and lines, and ports or pools where they are let in
 abbrev pub lets-in : Kinds → Kind → Bool
-lets-in All k = true
-lets-in Thin Pool = false
-lets-in Thin Table = true
-lets-in Thin Port = false
-lets-in Thin Page = true
-lets-in Thin Thread = true
-lets-in Thin Line = true
+lets-in ks Pool = ks .pools
+lets-in ks Table = true
+lets-in ks Port = ks .ports
+lets-in ks Page = true
+lets-in ks Thread = true
+lets-in ks Line = true
 
 -- "HOLD", compared as far as there are bytes
 abbrev pub differs : List ℕ → ℕ → ℕ → Bool

@@ -1,8 +1,8 @@
 -- Files of which only the first bytes were read: `more` says whether they go on beyond these. Assumes nothing: these are definitions.
-use mathlib.Core.Bool.{Bool, true, false, cond, _&&_, _||_}
+use mathlib.Core.Bool.{Bool, true, false, cond, not, _&&_, _||_}
 use mathlib.Core.List.{List}
 use Prim.Native.Nat.{ℕ, _+_}
-use lib.Dec.{ltb, eqb}
+use lib.Dec.{leb, eqb}
 use lib.ListN.{length}
 use Rattle.std.specs.declared.result.Result.the-variants.{Ok, Err}
 use Rattle.rights.specs.declared.refusals.Refusal.the-variants.{Length, Event}
@@ -23,7 +23,7 @@ part-verdict ks frames more bs = cond more (going-on bs (verdict ks frames bs)) 
 
 -- whether an event at a place is cut in two by the end of what was read
 abbrev pub cut-in-two : List ℕ → ℕ → Bool
-cut-in-two es at = (eqb (one es at) 0 && ltb (length es) (at + 3)) || (eqb (one es at) 1 && ltb (length es) (at + 4))
+cut-in-two es at = (eqb (one es at) 0 && not (leb (at + 3) (length es))) || (eqb (one es at) 1 && not (leb (at + 4) (length es)))
 
 -- events that go on: the first that is wrong, and if there is none or the limit cuts it in two, that they go on
 abbrev pub events-going-on : List ℕ → Read (Unit {0}) → Read (Unit {0})

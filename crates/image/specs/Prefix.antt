@@ -20,7 +20,8 @@ use Rattle.image.specs.Events.{events}
 use Rattle.image.specs.Limits.{part-verdict, part-events}
 
 -- where the field ends that a refusal of an image of n objects speaks of: "HOLD" has four bytes, a name two;
--- of what is judged by its value, the number of objects and the sizes in the headers have two bytes, the others one
+-- of what is judged by its value, the number of objects and the sizes in the headers have two bytes, the others one.
+-- Of bytes that are missing or too many it is their place; frames and events speak of no field of the image
 abbrev pub field-end : ℕ → Refusal → ℕ
 field-end n (Length p) = p
 field-end n Magic = 4
@@ -72,11 +73,17 @@ Limit-holds =
     (part-verdict ks frames (ltb limit (length file)) (take limit file) ≡ verdict ks frames file)
     ⊎ ((limit < length file) × (part-verdict ks frames (ltb limit (length file)) (take limit file) ≡ Err (Length limit)))
 
--- and a fault of the whole file whose field lies before the limit is told; if bytes go on, the first too many has to lie before it
+-- a file that goes on beyond the limit is never taken
+abbrev pub Never-taken : Type 0
+Never-taken =
+    (ks : Kinds) (frames limit : ℕ) (file : List ℕ) → limit < length file →
+    (e : Refusal) × (part-verdict ks frames (ltb limit (length file)) (take limit file) ≡ Err e) × (refusal-number e ≤ 4)
+
+-- and a fault of the whole file whose field lies before the limit is told
 abbrev pub Faults-told : Type 0
 Faults-told =
     (ks : Kinds) (frames limit : ℕ) (file : List ℕ) (e : Refusal) → verdict ks frames file ≡ Err e → refusal-number e ≤ 4 →
-    field-end (two file 4) e ≤ limit → (refusal-number e ≡ 1 → field-end (two file 4) e < limit) →
+    field-end (two file 4) e ≤ limit →
     part-verdict ks frames (ltb limit (length file)) (take limit file) ≡ Err e
 
 -- the same of events: where an event ends, by its kind; of one with no such kind only that byte counts

@@ -1,4 +1,5 @@
 -- Whether an image is taken. Assumes nothing: these are definitions.
+use mathlib.Core.Bool.{false}
 use mathlib.Core.List.{List}
 use Prim.Native.Nat.{ℕ, min}
 use lib.Dec.{leb}
@@ -7,14 +8,13 @@ use Rattle.std.specs.declared.result.Result.the-variants.{Ok}
 use Rattle.rights.specs.declared.refusals.Refusal.the-variants.{Length, Frames}
 use Rattle.image.specs.declared.census.Census.{Census}
 use Rattle.image.specs.declared.census.Kinds.{Kinds}
-use Rattle.image.specs.declared.census.Kinds.the-variants.{Thin}
 use Rattle.image.specs.Fields.{Read, _then_, judged}
 use Rattle.image.specs.Format.{magic, count, headers, body}
 use Rattle.image.specs.Layout.{frames-for}
 
 -- THE LIMIT ON KINDS: those that the kernel has so far
 abbrev pub built : Kinds
-built = Thin
+built = record { ports = false; pools = false }
 
 -- the bytes in their order, then that they end there, then that the objects fit into the lent frames, of which at most 4,096 are used
 abbrev pub verdict : Kinds → ℕ → List ℕ → Read Census

@@ -11,27 +11,32 @@ pub struct Census {
     pub lines: u16,
 }
 
-// Which kinds of objects an image may have.
+// Which kinds of objects an image may have beside tables, pages, threads and lines.
 #[derive(Clone, Copy)]
-pub enum Kinds {
-    // Tables, pages, threads and lines.
-    Thin,
-    All,
+pub struct Kinds {
+    pub ports: bool,
+    pub pools: bool,
 }
 
 impl Kinds {
     // Those that the kernel has so far.
-    pub const BUILT: Kinds = Kinds::Thin;
+    pub const BUILT: Kinds = Kinds {
+        ports: false,
+        pools: false,
+    };
+
+    pub const ALL: Kinds = Kinds {
+        ports: true,
+        pools: true,
+    };
 
     pub fn lets_in(self, kind: Kind) -> bool
         ensures { λ r. ⌜ r ≡ format.lets-in self kind ⌝ }
     {
-        match self {
-            Kinds::All => true,
-            Kinds::Thin => match kind {
-                Kind::Table | Kind::Page | Kind::Thread | Kind::Line => true,
-                Kind::Pool | Kind::Port => false,
-            },
+        match kind {
+            Kind::Table | Kind::Page | Kind::Thread | Kind::Line => true,
+            Kind::Port => self.ports,
+            Kind::Pool => self.pools,
         }
     }
 }

@@ -2,6 +2,7 @@
 use crate::fields::one;
 use crate::fields::past;
 use crate::fields::two;
+use crate::headers::head_at;
 use crate::headers::is_a;
 use crate::headers::names;
 use crate::headers::size_at;
@@ -125,7 +126,7 @@ fn section(image: &[u8], objects: u16, kind: Kind, mut at: usize) -> Result<usiz
 pub fn body(image: &[u8], objects: u16) -> Result<usize, Refusal>
     ensures { λ r. ⌜ r ≡ format.body (now (image .entry)) objects ⌝ }
 {
-    let at = section(image, objects, Kind::Table, 6 + 3 * objects as usize)?;
+    let at = section(image, objects, Kind::Table, head_at(objects))?;
     let at = section(image, objects, Kind::Page, at)?;
     section(image, objects, Kind::Thread, at)
 }

@@ -14,6 +14,7 @@ ghost use Prim.Native.Nat.{_≤_};
 ghost use lib.Dec.{ltb};
 ghost use lib.ListN.{take};
 ghost use Rattle.image.specs.Limits as limits;
+ghost use Rattle.image.specs.Verdict as verdict;
 ghost use Rattle.std.specs.Of.Vec.{vec-items, vec-len};
 ghost use Rattle.std.specs.Vec.{made};
 
@@ -73,17 +74,52 @@ impl Part {
     }
 }
 
-// Whether an image and its events are taken: first what is wrong with the image, then with the
-// events.
-pub fn check_files(
-    kinds: Kinds,
-    image: &Part,
-    events: &Part,
-    frames: u32,
-) -> Result<Census, Refusal>
-    ensures { λ r. ⌜ r ≡ limits.both kinds frames (now (image .entry) .more) (vec-items (now (image .entry) .bytes)) (now (events .entry) .more) (vec-items (now (events .entry) .bytes)) ⌝ }
-{
-    let census = check_part(kinds, &image.bytes, image.more, frames)?;
-    check_events_part(&image.bytes, &events.bytes, events.more)?;
-    Ok(census)
+// Which of the two files of a run cannot be read, and why.
+#[derive(Drop)]
+pub enum Unreadable {
+    Image(io::Error),
+    Events(io::Error),
+}
+
+// The two files of a run.
+#[derive(Drop)]
+pub struct Inputs {
+    pub image: Part,
+    pub events: Part,
+}
+
+impl Inputs {
+    // Reads both, each up to its own limit.
+    pub fn read<R: Files + Alloc<A = std::alloc::Global>>(
+        rt: &R,
+        image: &str,
+        events: &str,
+    ) -> Result<Inputs, Unreadable>
+        ensures { λ r. ⌜ made r (λ p. (p .image .more ≡ true → vec-len (p .image .bytes) ≡ 2097152) × (p .events .more ≡ true → vec-len (p .events .bytes) ≡ 1048576)) ⌝ }
+    {
+        match (Part::read_image(rt, image), Part::read_events(rt, events)) {
+            (Ok(image), Ok(events)) => Ok(Inputs { image, events }),
+            (Err(e), _) => Err(Unreadable::Image(e)),
+            (_, Err(e)) => Err(Unreadable::Events(e)),
+        }
+    }
+
+    // Whether they are taken, with `frames` frames lent: first what is wrong with the image, then
+    // with the events.
+    pub fn check_with(&self, kinds: Kinds, frames: u32) -> Result<Census, Refusal>
+        ensures { λ r. ⌜ r ≡ limits.both kinds frames (now (self .entry) .image .more) (vec-items (now (self .entry) .image .bytes)) (now (self .entry) .events .more) (vec-items (now (self .entry) .events .bytes)) ⌝ }
+    {
+        let image = &self.image;
+        let events = &self.events;
+        let census = check_part(kinds, &image.bytes, image.more, frames)?;
+        check_events_part(&image.bytes, &events.bytes, events.more)?;
+        Ok(census)
+    }
+
+    // The same for the kinds of objects that the kernel has, and the 1,024 frames that it is lent.
+    pub fn check(&self) -> Result<Census, Refusal>
+        ensures { λ r. ⌜ r ≡ limits.both verdict.built 1024 (now (self .entry) .image .more) (vec-items (now (self .entry) .image .bytes)) (now (self .entry) .events .more) (vec-items (now (self .entry) .events .bytes)) ⌝ }
+    {
+        self.check_with(Kinds::BUILT, 1024)
+    }
 }

@@ -9,18 +9,25 @@ use rights::Refusal;
 ghost use mathlib.Core.Path.{_≡_};
 ghost use Rattle.image.specs.Format as format;
 
+// Where the header of object `o` is.
+pub fn head_at(o: u16) -> usize
+    ensures { λ r. ⌜ r ≡ format.head-at o ⌝ }
+{
+    6 + 3 * o as usize
+}
+
 // Whether object `o` is of a kind, by its header.
 pub fn is_a(image: &[u8], o: u16, kind: Kind) -> bool
     ensures { λ r. ⌜ r ≡ format.is-a (now (image .entry)) o kind ⌝ }
 {
-    one(image, 6 + 3 * o as usize) == kind.number()
+    one(image, head_at(o)) == kind.number()
 }
 
 // The size of object `o`, by its header.
 pub fn size_at(image: &[u8], o: u16) -> u16
     ensures { λ r. ⌜ r ≡ format.size-at (now (image .entry)) o ⌝ }
 {
-    two(image, 6 + 3 * o as usize + 1)
+    two(image, head_at(o) + 1)
 }
 
 // Whether `number` is 0, for none, or an object of a kind, plus 1.
@@ -88,7 +95,7 @@ fn kind_at(kinds: Kinds, image: &[u8], at: usize) -> Option<Kind>
 fn header(kinds: Kinds, image: &[u8], o: u16, census: Census) -> Result<Census, Refusal>
     ensures { λ r. ⌜ r ≡ format.header kinds (now (image .entry)) o census ⌝ }
 {
-    let at = 6 + 3 * o as usize;
+    let at = head_at(o);
     let size = past(image, at, 1)?;
     let Some(kind) = kind_at(kinds, image, at) else {
         return Err(Refusal::Value(at));

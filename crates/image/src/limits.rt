@@ -2,8 +2,9 @@
 use crate::census::Census;
 use crate::census::Kinds;
 use crate::fields::one;
+use crate::fields::there;
 use crate::rows::check_events;
-use crate::verdicts::check_kinds;
+use crate::verdicts::check_with;
 use rights::Refusal;
 ghost use mathlib.Core.Path.{_≡_};
 ghost use Rattle.image.specs.Limits as limits;
@@ -12,7 +13,7 @@ ghost use Rattle.image.specs.Limits as limits;
 pub fn check_part(kinds: Kinds, image: &[u8], more: bool, frames: u32) -> Result<Census, Refusal>
     ensures { λ r. ⌜ r ≡ limits.part-verdict kinds frames more (now (image .entry)) ⌝ }
 {
-    let whole = check_kinds(kinds, image, frames);
+    let whole = check_with(kinds, image, frames);
     if !more {
         return whole;
     }
@@ -27,8 +28,8 @@ fn cut_in_two(events: &[u8], at: usize) -> bool
     ensures { λ r. ⌜ r ≡ limits.cut-in-two (now (events .entry)) at ⌝ }
 {
     match one(events, at) {
-        0 => events.len() < 3 || events.len() - 3 < at,
-        1 => events.len() < 4 || events.len() - 4 < at,
+        0 => !there(events, at, 3),
+        1 => !there(events, at, 4),
         _ => false,
     }
 }

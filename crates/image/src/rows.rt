@@ -1,5 +1,6 @@
 // Rows of events.
 use crate::fields::one;
+use crate::fields::there;
 use crate::fields::two;
 use crate::headers::is_a;
 use rights::Kind;
@@ -18,7 +19,7 @@ fn event_of(
 ) -> Result<usize, Refusal>
     ensures { λ r. ⌜ r ≡ rows.event-of (now (image .entry)) objects (now (events .entry)) at width kind ⌝ }
 {
-    if events.len() < width || events.len() - width < at {
+    if !there(events, at, width) {
         return Err(Refusal::Event(at));
     }
     let o = two(events, at + 1);

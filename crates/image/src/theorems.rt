@@ -1,75 +1,60 @@
 // Theorems about the definitions, each named by a contract.
-ghost use Rattle.image.specs.Apart.{Layout};
+ghost use Rattle.image.specs.Apart.{Lies-apart};
 ghost use Rattle.image.specs.Instances.{Instances};
-ghost use Rattle.image.specs.Prefix.{Decided-early, Goes-on, Length-by-headers, One-length, Limit-holds, Faults-told, Events-limit-holds, Event-faults-told};
+ghost use Rattle.image.specs.Prefix.{Decided-early, Goes-on, Length-by-headers, One-length, Limit-holds, Never-taken, Faults-told, Events-limit-holds, Event-faults-told};
 
 // Objects lie apart in the frames, and within as many as are asked for, which are no more than
 // their sizes say.
-pub fn lies_apart() -> u8
-    ensures { λ _. ⌜ Layout ⌝ }
-{
-    0
-}
+pub fn lies_apart()
+    ensures { λ _. ⌜ Lies-apart ⌝ }
+{}
 
 // A refusal with a number of 2 to 4 does not depend on what follows the field that it speaks of.
-pub fn decided_early() -> u8
+pub fn decided_early()
     ensures { λ _. ⌜ Decided-early ⌝ }
-{
-    0
-}
+{}
 
 // That bytes go on depends only on the bytes before the first too many.
-pub fn goes_on() -> u8
+pub fn goes_on()
     ensures { λ _. ⌜ Goes-on ⌝ }
-{
-    0
-}
+{}
 
 // An image that is taken is as long as its headers say.
-pub fn length_by_headers() -> u8
+pub fn length_by_headers()
     ensures { λ _. ⌜ Length-by-headers ⌝ }
-{
-    0
-}
+{}
 
 // Two images that are taken and have the same headers have the same length.
-pub fn one_length() -> u8
+pub fn one_length()
     ensures { λ _. ⌜ One-length ⌝ }
-{
-    0
-}
+{}
 
 // The check of the first bytes of an image says what the check of the whole file would say, or
 // that it goes on beyond the limit.
-pub fn limit_holds() -> u8
+pub fn limit_holds()
     ensures { λ _. ⌜ Limit-holds ⌝ }
-{
-    0
-}
+{}
+
+// A file that goes on beyond the limit is never taken.
+pub fn never_taken()
+    ensures { λ _. ⌜ Never-taken ⌝ }
+{}
 
 // A fault before the limit is told.
-pub fn faults_told() -> u8
+pub fn faults_told()
     ensures { λ _. ⌜ Faults-told ⌝ }
-{
-    0
-}
+{}
 
 // The same two of a row of events.
-pub fn events_limit_holds() -> u8
+pub fn events_limit_holds()
     ensures { λ _. ⌜ Events-limit-holds ⌝ }
-{
-    0
-}
+{}
 
-pub fn event_faults_told() -> u8
+pub fn event_faults_told()
     ensures { λ _. ⌜ Event-faults-told ⌝ }
-{
-    0
-}
+{}
 
 // The hypotheses of these can be met.
-pub fn instances() -> u8
+pub fn instances()
     ensures { λ _. ⌜ Instances ⌝ }
-{
-    0
-}
+{}

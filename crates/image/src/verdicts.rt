@@ -12,7 +12,7 @@ ghost use Rattle.image.specs.Verdict as verdict;
 
 // Takes an image with objects of the kinds that are let in, if it fits into `frames` frames, of
 // which at most 4,096 are used; or says what is wrong with it and where.
-pub fn check_kinds(kinds: Kinds, image: &[u8], frames: u32) -> Result<Census, Refusal>
+pub fn check_with(kinds: Kinds, image: &[u8], frames: u32) -> Result<Census, Refusal>
     ensures { λ r. ⌜ r ≡ verdict.verdict kinds frames (now (image .entry)) ⌝ }
 {
     let _ = magic(image)?;
@@ -33,5 +33,5 @@ pub fn check_kinds(kinds: Kinds, image: &[u8], frames: u32) -> Result<Census, Re
 pub fn check(image: &[u8], frames: u32) -> Result<Census, Refusal>
     ensures { λ r. ⌜ r ≡ verdict.verdict verdict.built frames (now (image .entry)) ⌝ }
 {
-    check_kinds(Kinds::BUILT, image, frames)
+    check_with(Kinds::BUILT, image, frames)
 }

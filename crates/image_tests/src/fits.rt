@@ -6,7 +6,7 @@ use crate::images::sample;
 use crate::outcome::Answers;
 use crate::outcome::TAKEN;
 use image::Kinds;
-use image::check_kinds;
+use image::check_with;
 use image::frames_for;
 use image::place_of;
 use rights::Kind;
@@ -62,7 +62,7 @@ fn frames(rt: LibcRuntime) -> Result<(), Fail> {
         for lent in [needed.saturating_sub(1), needed, 5000, u32::MAX] {
             let refused = lent < needed || needed > 4096;
             let expected = if refused { (5, needed as usize) } else { TAKEN };
-            answers.expect(check_kinds(Kinds::All, &image, lent), expected);
+            answers.expect(check_with(Kinds::ALL, &image, lent), expected);
         }
     }
     answers.verdict()

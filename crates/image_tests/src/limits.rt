@@ -7,10 +7,10 @@ use crate::images::sample;
 use crate::outcome::Answers;
 use crate::outcome::TAKEN;
 use crate::outcome::Told;
+use image::Inputs;
 use image::Kinds;
 use image::Part;
 use image::check_events_part;
-use image::check_files;
 use image::check_part;
 use rights::Kind;
 use std::test::Fail;
@@ -79,7 +79,7 @@ fn part_of_image(rt: LibcRuntime) -> Result<(), Fail> {
         put(&mut image, at, byte);
         image.extend_from_slice(more)?;
         let part = Part::first(limit, image);
-        let result = check_part(Kinds::Thin, &part.bytes, part.more, frames);
+        let result = check_part(Kinds::BUILT, &part.bytes, part.more, frames);
         answers.expect(result, expected);
     }
     answers.verdict()
@@ -146,7 +146,8 @@ fn both_files(rt: LibcRuntime) -> Result<(), Fail> {
         };
         let bytes = Vec::from_slice(rt.alloc(), row)?;
         let events = Part { bytes, more };
-        answers.expect(check_files(Kinds::Thin, &image, &events, frames), expected);
+        let inputs = Inputs { image, events };
+        answers.expect(inputs.check_with(Kinds::BUILT, frames), expected);
     }
     answers.verdict()
 }
@@ -182,7 +183,8 @@ fn longest_files(rt: LibcRuntime) -> Result<(), Fail> {
         events.extend_from_slice(last)?;
         let image = Part::first(2_097_152, image);
         let events = Part::first(1_048_576, events);
-        answers.expect(check_files(Kinds::Thin, &image, &events, frames), expected);
+        let inputs = Inputs { image, events };
+        answers.expect(inputs.check_with(Kinds::BUILT, frames), expected);
     }
     answers.verdict()
 }

@@ -7,7 +7,7 @@ use crate::outcome::Told;
 use crate::outcome::counts;
 use image::Kinds;
 use image::check;
-use image::check_kinds;
+use image::check_with;
 use rights::Kind;
 use std::test::Fail;
 use std::test::check_eq;
@@ -67,8 +67,8 @@ fn kinds_and_sizes(rt: LibcRuntime) -> Result<(), Fail> {
     let mut answers = Answers::new();
     for &(kind, size, all, thin) in ONE {
         let image = blank(rt.alloc(), 1, &[Objects(1, kind, size)])?;
-        answers.expect(check_kinds(Kinds::All, &image, 4096), all);
-        answers.expect(check_kinds(Kinds::Thin, &image, 4096), thin);
+        answers.expect(check_with(Kinds::ALL, &image, 4096), all);
+        answers.expect(check_with(Kinds::BUILT, &image, 4096), thin);
         answers.expect(check(&image, 4096), thin);
     }
     answers.verdict()
