@@ -1,0 +1,5 @@
+use Rattle.laws.proofs.Two.{parts}
+use Rattle.laws.proofs.example_parts.Needs as need
+
+pub returns : need.returns
+returns c = parts

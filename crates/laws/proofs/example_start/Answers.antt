@@ -1,0 +1,5 @@
+use Rattle.laws.proofs.Small.{starts}
+use Rattle.laws.proofs.example_start.Needs as need
+
+pub returns : need.returns
+returns c = starts

@@ -1,0 +1,14 @@
+pub mod Lists
+pub mod Marking
+pub mod Agree
+pub mod Same
+pub mod Slots
+pub mod Ports
+pub mod Pools
+pub mod Turned
+pub mod Descent
+pub mod Scans
+pub mod Kin
+pub mod Revoked
+pub mod Happens
+pub mod Small

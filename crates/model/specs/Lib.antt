@@ -1,0 +1,9 @@
+pub mod Plain
+pub mod Calls
+pub mod Cuts
+pub mod Sweeps
+pub mod Turns
+pub mod Sound
+pub mod Meaning
+pub mod Same
+pub mod Example

@@ -1,0 +1,32 @@
+// The abstract world as a program: vectors of objects, with numbers and births that are never used again.
+mod calls;
+mod cuts;
+mod ends;
+mod events;
+mod lends;
+mod marks;
+mod meets;
+mod objects;
+mod parts;
+mod revokes;
+mod spaces;
+mod sweeps;
+mod theorems;
+mod threads;
+
+pub use ends::First;
+pub use ends::Outcome;
+pub use objects::Capability;
+pub use objects::Fault;
+pub use objects::FaultDebug;
+pub use objects::FaultFromAlloc;
+pub use objects::FaultFromRefused;
+pub use objects::Object;
+pub use objects::Slot;
+pub use objects::State;
+pub use objects::Thread;
+pub use objects::Wait;
+pub use objects::World;
+pub use theorems::calls_agree;
+pub use theorems::events_agree;
+pub use theorems::small_is_sound;
