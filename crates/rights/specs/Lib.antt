@@ -1,3 +1,4 @@
 pub mod World
 pub mod Vocabulary
 pub mod Request
+pub mod Promise
