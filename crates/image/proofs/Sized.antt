@@ -27,7 +27,7 @@ use Rattle.image.proofs.Decided.{Reading, reading, finish, verdict-is, reading
 use Rattle.image.proofs.Told.{Told}
 
 -- a reader that went on, and what it went on from
-then-back : {A B : Type 0} (r : Read A) (f : A → Read B) (b : B) → r then f ≡ Ok b → (a : A) × (r ≡ Ok a) × (f a ≡ Ok b)
+pub then-back : {A B : Type 0} (r : Read A) (f : A → Read B) (b : B) → r then f ≡ Ok b → (a : A) × (r ≡ Ok a) × (f a ≡ Ok b)
 then-back (Ok a) f b e = (a, refl, e)
 then-back (Err d) f b e = absurd (let z : _≡_ {A = ℕ} 0 1 = cc in omega arith)
 

@@ -7,3 +7,5 @@ pub mod Limits
 pub mod Apart
 pub mod Prefix
 pub mod Instances
+pub mod Meaning
+pub mod Rows

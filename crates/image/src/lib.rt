@@ -29,5 +29,6 @@ pub use theorems::length_by_headers;
 pub use theorems::lies_apart;
 pub use theorems::limit_holds;
 pub use theorems::one_length;
+pub use theorems::rows_named;
 pub use verdicts::check;
 pub use verdicts::check_kinds;

@@ -2,6 +2,7 @@
 ghost use Rattle.image.specs.Apart.{Layout};
 ghost use Rattle.image.specs.Instances.{Instances};
 ghost use Rattle.image.specs.Prefix.{Decided-early, Goes-on, Length-by-headers, One-length, Limit-holds, Faults-told, Events-limit-holds, Event-faults-told};
+ghost use Rattle.image.specs.Rows.{Rows-named};
 
 // Objects lie apart in the frames, and within as many as are asked for, which are no more than
 // their sizes say.
@@ -63,6 +64,13 @@ pub fn events_limit_holds() -> u8
 
 pub fn event_faults_told() -> u8
     ensures { λ _. ⌜ Event-faults-told ⌝ }
+{
+    0
+}
+
+// Events that are taken name objects of the image: an instruction's time a thread, a byte a line.
+pub fn rows_named() -> u8
+    ensures { λ _. ⌜ Rows-named ⌝ }
 {
     0
 }
