@@ -9,3 +9,4 @@ pub mod Prefix
 pub mod Instances
 pub mod Meaning
 pub mod Rows
+pub mod Allowed

@@ -28,6 +28,7 @@ pub use theorems::instances;
 pub use theorems::length_by_headers;
 pub use theorems::lies_apart;
 pub use theorems::limit_holds;
+pub use theorems::means_allowed;
 pub use theorems::one_length;
 pub use theorems::rows_named;
 pub use verdicts::check;

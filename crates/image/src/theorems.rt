@@ -1,4 +1,5 @@
 // Theorems about the definitions, each named by a contract.
+ghost use Rattle.image.specs.Allowed.{Means-allowed};
 ghost use Rattle.image.specs.Apart.{Layout};
 ghost use Rattle.image.specs.Instances.{Instances};
 ghost use Rattle.image.specs.Prefix.{Decided-early, Goes-on, Length-by-headers, One-length, Limit-holds, Faults-told, Events-limit-holds, Event-faults-told};
@@ -64,6 +65,14 @@ pub fn events_limit_holds() -> u8
 
 pub fn event_faults_told() -> u8
     ensures { λ _. ⌜ Event-faults-told ⌝ }
+{
+    0
+}
+
+// An image that is taken means an allowed world, with as many objects, threads and lines as are
+// counted.
+pub fn means_allowed() -> u8
+    ensures { λ _. ⌜ Means-allowed ⌝ }
 {
     0
 }

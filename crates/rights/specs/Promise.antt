@@ -253,7 +253,7 @@ module _ (Cpu : Type 0) (fresh : ℕ → Cpu) (act : Cpu → (ℕ → ℕ) → A
   Nothing-dangles =
       (z : Sizes) (v : World Cpu) (es : List Event) → 1 ≤ z .bytes → Parted (λ o. true) v → Kinds v →
       ((o i u b j m : ℕ) (r : Rights) → getD (slots-of Cpu fresh act (object Cpu fresh act (run Cpu fresh act z v es) o)) i empty ≡ cap u r b j m →
-      object Cpu fresh act (run Cpu fresh act z v es) u ≢ gone) ×
+        object Cpu fresh act (run Cpu fresh act z v es) u ≢ gone) ×
       Kinds (run Cpu fresh act z v es) × Rows (run Cpu fresh act z v es)
 
   -- rights never grow: whoever was made from somebody has no right that the other lacks, as long as both lead to the same object
