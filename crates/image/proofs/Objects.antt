@@ -19,8 +19,9 @@ use Rattle.rights.specs.World.{Object, Slot, State, gone, pool, table, port, pa
 use Rattle.rv32.specs.declared.registers.Cpu.{Cpu}
 use Rattle.rv32.specs.Registers.{fresh}
 use Rattle.rv32.specs.Execute.{act}
+use Rattle.image.specs.declared.census.Kinds.{Kinds}
 use Rattle.image.specs.Fields.{one, two, Read}
-use Rattle.image.specs.Format.{head-at, size-at, is-a, names, content, part}
+use Rattle.image.specs.Format.{lets-in, head-at, size-at, is-a, names, content, part}
 use Rattle.image.specs.Layout.{begins, takes, filled}
 use Rattle.image.specs.Meaning.{two-bytes, all, pairs, Places, state-of, read-as, object-at, pages-from, marks-from, ready-mark, kind-of, size-of, header-bytes, content-bytes, part-bytes, begins-at, takes-up, filled-by}
 use Rattle.image.proofs.Stands.{At, Alls, at-len, at-two, past-fine}
@@ -38,6 +39,13 @@ kind-known Line = refl
 
 kind-same : (j k : Kind) → kind-number j ≡ kind-number k → j ≡ k
 kind-same j k e = let q : Some j ≡ Some k = sym (kind-known j) ∙ (ap kind-from e ∙ kind-known k) in cc
+
+-- an object whose kind is let in
+abbrev pub Let-in : Kinds → Object Cpu → Type 0
+Let-in ks x = (k : Kind) → kind-of x ≡ kind-number k → lets-in ks k ≡ true
+
+pub let-as : (ks : Kinds) (x : Object Cpu) (j : Kind) → kind-of x ≡ kind-number j → lets-in ks j ≡ true → Let-in ks x
+let-as ks x j e l k f = subst (λ i. lets-in ks i ≡ true) (kind-same j k (sym e ∙ f)) l
 
 -- a header
 pub record HeadAt (bs : List ℕ) (o k s : ℕ) : Type 0 where

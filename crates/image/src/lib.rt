@@ -24,6 +24,7 @@ pub use theorems::event_faults_told;
 pub use theorems::events_limit_holds;
 pub use theorems::faults_told;
 pub use theorems::goes_on;
+pub use theorems::holds_all;
 pub use theorems::instances;
 pub use theorems::length_by_headers;
 pub use theorems::lies_apart;

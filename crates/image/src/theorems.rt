@@ -1,5 +1,5 @@
 // Theorems about the definitions, each named by a contract.
-ghost use Rattle.image.specs.Allowed.{Means-allowed};
+ghost use Rattle.image.specs.Allowed.{Holds, Means-allowed};
 ghost use Rattle.image.specs.Apart.{Layout};
 ghost use Rattle.image.specs.Instances.{Instances};
 ghost use Rattle.image.specs.Prefix.{Decided-early, Goes-on, Length-by-headers, One-length, Limit-holds, Faults-told, Events-limit-holds, Event-faults-told};
@@ -65,6 +65,13 @@ pub fn events_limit_holds() -> u8
 
 pub fn event_faults_told() -> u8
     ensures { λ _. ⌜ Event-faults-told ⌝ }
+{
+    0
+}
+
+// Every allowed world has an image that is taken and means it.
+pub fn holds_all() -> u8
+    ensures { λ _. ⌜ Holds ⌝ }
 {
     0
 }
