@@ -27,15 +27,15 @@ use Rattle.image.proofs.Decided.{Reading, reading, finish, verdict-is, reading
 use Rattle.image.proofs.Told.{Told}
 
 -- a reader that went on, and what it went on from
-then-back : {A B : Type 0} (r : Read A) (f : A → Read B) (b : B) → r then f ≡ Ok b → (a : A) × (r ≡ Ok a) × (f a ≡ Ok b)
+pub then-back : {A B : Type 0} (r : Read A) (f : A → Read B) (b : B) → r then f ≡ Ok b → (a : A) × (r ≡ Ok a) × (f a ≡ Ok b)
 then-back (Ok a) f b e = (a, refl, e)
 then-back (Err d) f b e = absurd (let z : _≡_ {A = ℕ} 0 1 = cc in omega arith)
 
-past-back : (bs : List ℕ) (at n b : ℕ) → past bs at n ≡ Ok b → b ≡ at + n
+pub past-back : (bs : List ℕ) (at n b : ℕ) → past bs at n ≡ Ok b → (at + n ≤ length bs) × (b ≡ at + n)
 past-back bs at n b e = grind (arith, tells)
 
-judged-back : {A : Type 0} (t : Bool) (e : Refusal) (r : Read A) (b : A) → judged t e r ≡ Ok b → r ≡ Ok b
-judged-back true e r b q = q
+pub judged-back : {A : Type 0} (t : Bool) (e : Refusal) (r : Read A) (b : A) → judged t e r ≡ Ok b → (t ≡ true) × (r ≡ Ok b)
+judged-back true e r b q = (refl, q)
 judged-back false e r b q = absurd (let z : _≡_ {A = ℕ} 0 1 = cc in omega arith)
 
 -- how much k readers from i on add, if reader i adds g i
@@ -90,8 +90,8 @@ unfolding entry-width
 state-adds bs n a b e =
     let t = then-back (past bs a 2) (λ space. judged (names bs n (two bs a) Table) (Name a) (entries bs n Mapping 64 space then ready-pc bs)) b e in
     let j = judged-back (names bs n (two bs a) Table) (Name a) (entries bs n Mapping 64 (t .0) then ready-pc bs) b (t .2) in
-    let s = then-back (entries bs n Mapping 64 (t .0)) (ready-pc bs) b j in
-    omega (arith, past-back bs a 2 (t .0) (t .1), entries-add bs n Mapping 64 (t .0) (s .0) (s .1), ready-adds bs (s .0) b (s .2))
+    let s = then-back (entries bs n Mapping 64 (t .0)) (ready-pc bs) b (j .1) in
+    omega (arith, past-back bs a 2 (t .0) (t .1) .1, entries-add bs n Mapping 64 (t .0) (s .0) (s .1), ready-adds bs (s .0) b (s .2))
 
 -- how many bytes object o has, if it is of a kind
 abbrev of-kind : List ℕ → Kind → ℕ → ℕ
@@ -107,7 +107,7 @@ unfolding entry-width
 content-adds bs n Pool o a b e = let z : a ≡ b = cc in omega (arith, z)
 content-adds bs n Table o a b e = omega (arith, entries-add bs n Slot (size-at bs o) a b e)
 content-adds bs n Port o a b e = let z : a ≡ b = cc in omega (arith, z)
-content-adds bs n Page o a b e = past-back bs a 4096 b e
+content-adds bs n Page o a b e = past-back bs a 4096 b e .1
 content-adds bs n Thread o a b e = state-adds bs n a b e
 content-adds bs n Line o a b e = let z : a ≡ b = cc in omega (arith, z)
 

@@ -7,3 +7,6 @@ pub mod Limits
 pub mod Apart
 pub mod Prefix
 pub mod Instances
+pub mod Meaning
+pub mod Rows
+pub mod Allowed

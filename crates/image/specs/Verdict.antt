@@ -1,5 +1,5 @@
 -- Whether an image is taken. Assumes nothing: these are definitions.
-use mathlib.Core.Bool.{false}
+use mathlib.Core.Bool.{true, false}
 use mathlib.Core.List.{List}
 use Prim.Native.Nat.{ℕ, min}
 use lib.Dec.{leb}
@@ -15,6 +15,10 @@ use Rattle.image.specs.Layout.{frames-for}
 -- THE LIMIT ON KINDS: those that the kernel has so far
 abbrev pub built : Kinds
 built = record { ports = false; pools = false }
+
+-- and all that there are
+abbrev pub all-kinds : Kinds
+all-kinds = record { ports = true; pools = true }
 
 -- the bytes in their order, then that they end there, then that the objects fit into the lent frames, of which at most 4,096 are used
 abbrev pub verdict : Kinds → ℕ → List ℕ → Read Census

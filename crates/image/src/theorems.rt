@@ -1,7 +1,9 @@
 // Theorems about the definitions, each named by a contract.
+ghost use Rattle.image.specs.Allowed.{Holds, Means-allowed};
 ghost use Rattle.image.specs.Apart.{Lies-apart};
 ghost use Rattle.image.specs.Instances.{Instances};
 ghost use Rattle.image.specs.Prefix.{Decided-early, Goes-on, Length-by-headers, One-length, Limit-holds, Never-taken, Faults-told, Events-limit-holds, Event-faults-told};
+ghost use Rattle.image.specs.Rows.{Rows-named};
 
 // Objects lie apart in the frames, and within as many as are asked for, which are no more than
 // their sizes say.
@@ -52,6 +54,22 @@ pub fn events_limit_holds()
 
 pub fn event_faults_told()
     ensures { λ _. ⌜ Event-faults-told ⌝ }
+{}
+
+// Every allowed world has an image that is taken and means it.
+pub fn holds_all()
+    ensures { λ _. ⌜ Holds ⌝ }
+{}
+
+// An image that is taken means an allowed world, with as many objects, threads and lines as are
+// counted.
+pub fn means_allowed()
+    ensures { λ _. ⌜ Means-allowed ⌝ }
+{}
+
+// Events that are taken name objects of the image: an instruction's time a thread, a byte a line.
+pub fn rows_named()
+    ensures { λ _. ⌜ Rows-named ⌝ }
 {}
 
 // The hypotheses of these can be met.
