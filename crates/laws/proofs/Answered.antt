@@ -12,7 +12,7 @@ use Rattle.rights.specs.Promise.{Kinds, Uncut, Note, message, got-by, met-at, r
 use Rattle.laws.proofs.Tests.{yes-no, no-yes, clash, same-or-not}
 use Rattle.laws.proofs.Steps.{is-sender, came, met, told, Sight, other, seen-as, waiting-at, All-cut, All-gone, one, waits-at, view, waiting-of}
 use Rattle.laws.proofs.Steps.{waiting, goes, sweeps, rests, joins, Outcome, nothing, heard, stops, calls}
-use Rattle.laws.proofs.Sweeps.{After-sweep, lost, untouched, slots-go, waits-go, goes-calm, goes-waiting, goes-woken, swept-at}
+use Rattle.laws.proofs.Sweeping.{After-sweep, lost, untouched, slots-go, waits-go, goes-calm, goes-waiting, goes-woken, swept-at}
 use Rattle.laws.proofs.Moves.{alike-set, hands-over}
 use Rattle.laws.proofs.Pass.{happens}
 use Rattle.laws.proofs.Places.{kinds-run}

@@ -15,7 +15,7 @@ use Rattle.rights.specs.World.{revoking, does, run}
 use Rattle.rights.specs.Promise.{Parted, lines, Comes, Revoked, Held-is-there, No-more}
 use Rattle.laws.proofs.Tests.{yes-no, no-yes, both-ways, clash, or-cases, less-one, among-++}
 use Rattle.laws.proofs.Steps.{No-wider, to, In, Turn, kept, spoken, stored, mapped, bound, ran, rowed, drawn, slotted, cut-new, Born, Change, one}
-use Rattle.laws.proofs.Sweeps.{After-sweep, lost, untouched, slots-go, waits-go, goes-calm, goes-waiting, goes-woken, swept-at, emptied-at}
+use Rattle.laws.proofs.Sweeping.{After-sweep, lost, untouched, slots-go, waits-go, goes-calm, goes-waiting, goes-woken, swept-at, emptied-at}
 use Rattle.laws.proofs.Moves.{small-refilled}
 use Rattle.laws.proofs.Pass.{run-keeps}
 

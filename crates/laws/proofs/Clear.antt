@@ -10,7 +10,7 @@ use Rattle.rights.specs.World.{slot-object, slot-birth, is-empty, among, object
 use Rattle.rights.specs.World.{clean-all, cleared}
 use Rattle.laws.proofs.Tests.{pick-two, or-two, less-one}
 use Rattle.laws.proofs.Steps.{one}
-use Rattle.laws.proofs.Sweeps.{at-clean, len-clean}
+use Rattle.laws.proofs.Sweeping.{at-clean, len-clean}
 use Rattle.laws.proofs.Pools.{within}
 use Rattle.laws.proofs.Tied.{Ties, Ref, none, Each, nil, cons, SlotT, empty-t, cap-t, WaitT, sender-t, receiver-t, From, Agree, ref-in, StateT}
 use Rattle.laws.proofs.Tied.{stopped-t, ready-t, waits-t, ObjT, gone-t, pool-t, table-t, port-t, page-t, thread-t, line-t, Tied}

@@ -11,7 +11,7 @@ use Rattle.laws.specs.Examples.{all, reads-only, small}
 use Rattle.laws.specs.Wrong.{copied-wide, Copy-tested, clean-but-one, Revoke-tested, answer, last-first, receiving-last, Port-tested, handed-always}
 use Rattle.laws.specs.Wrong.{Hand-on-tested}
 use Rattle.laws.proofs.Tests.{yes-no, no-yes, and-left}
-use Rattle.laws.proofs.Sweeps.{swept-at}
+use Rattle.laws.proofs.Sweeping.{swept-at}
 use Rattle.laws.proofs.Caps.{swept-in}
 
 pub copy-tested : Copy-tested

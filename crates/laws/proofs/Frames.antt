@@ -9,14 +9,14 @@ use borrow.Author.Tests.{ne-eqb}
 use lib.ListN.{length, List·getD-append}
 use Rattle.rights.specs.World.{Slot, Act, Object, gone, Sizes, World, tick, byte, slot-birth, slot-mother, among, object, cuttings, cleared, event}
 use Rattle.laws.proofs.Tests.{not-true, longer}
-use Rattle.laws.proofs.Cuttings.{fr}
+use Rattle.laws.proofs.CutFrom.{fr}
 use Rattle.laws.proofs.Steps.{one}
 use Rattle.laws.proofs.Moves.{alike}
 use Rattle.laws.proofs.Pools.{within}
 use Rattle.laws.proofs.Tied.{Ties, More, Lin, lin-nil, lin-both, lin-left, lin-right, up-cons, up-more, Agree, noted, pushed, Tied, left-set}
 use Rattle.laws.proofs.Tied.{right-set}
 use Rattle.laws.proofs.Clear.{t-clear, clear-none}
-use Rattle.laws.proofs.Kin.{a-cuttings, cuttings-none}
+use Rattle.laws.proofs.Kindred.{a-cuttings, cuttings-none}
 use Rattle.laws.proofs.Lockstep.{Frame, Held, Start, Next, n-tick, n-byte}
 
 lin-wide : {t : Ties} {a b c e : ℕ} {xs ys : List Slot} → a ≤ c → b ≤ e → Lin t a b xs ys → Lin t c e xs ys

@@ -27,7 +27,7 @@ use Rattle.laws.proofs.Tied.{from-none, from-some, each-length, each-at, each-
 use Rattle.laws.proofs.Tied.{ObjT, gone-t, pool-t, table-t, port-t, page-t, thread-t, line-t, noted, pushed, with-born, with-objs, more-born}
 use Rattle.laws.proofs.Tied.{more-objs, Tied, t-set, t-note, t-push}
 use Rattle.laws.proofs.Clear.{t-clear}
-use Rattle.laws.proofs.Kin.{each-among, each-in, e-all-offspring}
+use Rattle.laws.proofs.Kindred.{each-among, each-in, e-all-offspring}
 
 module _ (Cpu : Type 0) (fresh : ℕ → Cpu) (act : Cpu → (ℕ → ℕ) → Act Cpu) where
   -- tied objects are of the same kind: the eliminators of each kind, for two worlds at once

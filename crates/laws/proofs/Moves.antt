@@ -12,10 +12,10 @@ use Rattle.rights.specs.World.{slot-rights, slot-birth, slot-mother, is-empty, 
 use Rattle.rights.specs.World.{with-slots, with-slot, cuttings, cleared, refilled, set-state, handed}
 use Rattle.rights.specs.Promise.{lines, row-of}
 use Rattle.laws.proofs.Tests.{yes-no, no-yes, both-ways, pick-both, pick-know, and-left, less-one, set-by}
-use Rattle.laws.proofs.Cuttings.{fr, dual, sat}
+use Rattle.laws.proofs.CutFrom.{fr, dual, sat}
 use Rattle.laws.proofs.Steps.{No-wider, In, Turn, kept, ran, drawn, slotted, Change, Closed, All-cut, All-gone, small, Steps, none, after, one}
 use Rattle.laws.proofs.Steps.{waits-at, view, waiting-of, Same-face, All-seen, Same-faces}
-use Rattle.laws.proofs.Sweeps.{After-sweep, lost, untouched, slots-go, waits-go, goes-calm, goes-waiting, goes-woken, swept-at}
+use Rattle.laws.proofs.Sweeping.{After-sweep, lost, untouched, slots-go, waits-go, goes-calm, goes-waiting, goes-woken, swept-at}
 
 -- a slot of a list with x in a place
 at-slot : (ss : List Slot) (d i : ℕ) (x y : Slot) → getD (set ss d x) i empty ≡ y → (getD ss i empty ≡ y) ⊎ (x ≡ y)

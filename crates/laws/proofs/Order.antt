@@ -15,7 +15,7 @@ use Rattle.rights.specs.Promise.{paired, row-of, event-noted, log, First-come}
 use Rattle.laws.proofs.Tests.{yes-no, no-yes, clash, either-way, same-or-not, not-true, set-by, inside}
 use Rattle.laws.proofs.Steps.{is-sender, came, met, other, Turn, kept, spoken, stored, mapped, bound, ran, rowed, drawn, slotted, cut-new, All-cut}
 use Rattle.laws.proofs.Steps.{All-gone, one, waits-at, view, waiting-of, goes, sweeps, rests, joins, Outcome, nothing, heard, stops, calls}
-use Rattle.laws.proofs.Sweeps.{After-sweep, lost, untouched, slots-go, waits-go, goes-calm, goes-waiting, goes-woken, len-clean, swept-at}
+use Rattle.laws.proofs.Sweeping.{After-sweep, lost, untouched, slots-go, waits-go, goes-calm, goes-waiting, goes-woken, len-clean, swept-at}
 use Rattle.laws.proofs.Moves.{alike-set}
 use Rattle.laws.proofs.Pass.{happens, steps-of, steps-keep, event-keeps}
 use Rattle.laws.proofs.Places.{made-no-thread, kinds-small, kinds-sweep, kinds-event}

@@ -13,7 +13,7 @@ use Rattle.rights.specs.World.{event, run}
 use Rattle.rights.specs.Promise.{Kinds}
 use Rattle.laws.proofs.Tests.{no-yes, both-ways, clash, not-true, less-one}
 use Rattle.laws.proofs.Steps.{Turn, kept, spoken, stored, mapped, bound, ran, rowed, drawn, slotted, cut-new, Change, Closed}
-use Rattle.laws.proofs.Sweeps.{unbound, After-sweep, lost, untouched, slots-go, waits-go, goes-calm, goes-waiting, goes-woken, swept-at}
+use Rattle.laws.proofs.Sweeping.{unbound, After-sweep, lost, untouched, slots-go, waits-go, goes-calm, goes-waiting, goes-woken, swept-at}
 use Rattle.laws.proofs.Pass.{event-keeps, run-keeps}
 
 module _ (Cpu : Type 0) (fresh : ℕ → Cpu) (act : Cpu → (ℕ → ℕ) → Act Cpu) where

@@ -10,7 +10,7 @@ use Rattle.rights.specs.World.{Event, tick, byte, object, made, ticked, comes-i
 use Rattle.rights.specs.Promise.{Within}
 use Rattle.laws.proofs.Tests.{no-yes}
 use Rattle.laws.proofs.Steps.{Turn, kept, spoken, stored, mapped, bound, ran, rowed, drawn, slotted, cut-new, one}
-use Rattle.laws.proofs.Sweeps.{After-sweep, lost, untouched, slots-go, waits-go, goes-calm, goes-waiting, goes-woken, swept-at}
+use Rattle.laws.proofs.Sweeping.{After-sweep, lost, untouched, slots-go, waits-go, goes-calm, goes-waiting, goes-woken, swept-at}
 use Rattle.laws.proofs.Pass.{event-keeps, run-keeps}
 
 module _ (Cpu : Type 0) (fresh : ℕ → Cpu) (act : Cpu → (ℕ → ℕ) → Act Cpu) where

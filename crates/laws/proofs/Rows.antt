@@ -13,7 +13,7 @@ use Rattle.rights.specs.Promise.{waiters, No-twice, Kinds, Note, row-of}
 use Rattle.laws.proofs.Tests.{yes-no, clash, same-or-not, and-false, less-one, set-here, set-apart, set-by, inside}
 use Rattle.laws.proofs.Steps.{is-sender, awake, waits-at, view, waiting-of, waiting, Same-face, Same-faces, Behind, goes, sweeps, rests, joins, told}
 use Rattle.laws.proofs.Steps.{Outcome, nothing, heard, stops, calls}
-use Rattle.laws.proofs.Sweeps.{unbound, After-sweep, lost, untouched, slots-go, waits-go, goes-calm, goes-waiting, goes-woken, swept-at}
+use Rattle.laws.proofs.Sweeping.{unbound, After-sweep, lost, untouched, slots-go, waits-go, goes-calm, goes-waiting, goes-woken, swept-at}
 use Rattle.laws.proofs.Moves.{alike-set, hands-over}
 
 or-false : (c : Bool) → (c || false) ≡ c

@@ -12,11 +12,11 @@ use Rattle.rights.specs.World.{event, run, no as nay}
 use Rattle.rights.specs.Promise.{Comes, Revoked-any, Sized, filled, met-at, row-of, first-of, send-noted, receive-noted, port-at, first-at}
 use Rattle.rights.specs.Promise.{call-noted, act-noted, tick-noted, event-noted, log}
 use Rattle.laws.specs.Examples.{board, all, no-write, calling, small, Cuts, copies, Makes, Meets}
-use Rattle.laws.proofs.Small.{small-parted}
+use Rattle.laws.proofs.ExampleWorld.{small-parted}
 
-pub cuts : Cuts
+pub cut-both-ways : Cuts
 unfolding slot object table-of slots-of has-slot Sized filled cost step-of up-to
-cuts f a = (refl, refl, refl, refl, (lit≤ tt, lit≤ tt), (lit≤ tt, lit≤ tt), lit≤ tt, lit≤ tt)
+cut-both-ways f a = (refl, refl, refl, refl, (lit≤ tt, lit≤ tt), (lit≤ tt, lit≤ tt), lit≤ tt, lit≤ tt)
 
 pub made-and-revoked : Makes
 unfolding Comes slot object table-of slots-of run event ticked acts does went-on with-object set-state is-empty slot-rights has-slot with-slot with-slots copied meet seen offspring made-from among slot-mother slot-birth slot-object is-pool revoking refuse

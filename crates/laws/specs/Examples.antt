@@ -7,7 +7,7 @@ use Prim.Native.Nat.{ℕ, zero, suc, _+_, _*_, _≤_, _<_}
 use lib.Dec.{eqb, ltb}
 use lib.ListN.{length, getD, replicate}
 use Rattle.rights.specs.World.{Act, World, Sizes, Event, Object, Slot, Rights, Call, empty, cap, pool, line, port, page, table, thread, ready, stopped, waits, call, tick, copy, revoke, send, receive, say, hear, cut, a-pool, on, no, object, run, does, slot, has-slot, slots-of, offspring, among}
-use Rattle.rights.specs.Promise.{Parted, Kinds, Uncut, Comes, Sized, filled, only, log, met-at, got-by, message}
+use Rattle.rights.specs.Promise.{Parted, New, Fits, Kinds, Uncut, Comes, Sized, filled, only, log, met-at, got-by, message}
 use Rattle.rv32.specs.declared.registers.Cpu.{Cpu}
 use Rattle.rv32.specs.Registers.{fresh}
 
@@ -25,11 +25,11 @@ reads-only = record { reads = true; writes = false; hands = false }
 abbrev pub no-write : Rights
 no-write = record { reads = true; writes = false; hands = true }
 
--- a core that calling the calls of a list, one after the other: pc n is at call n
+-- a core that makes the calls of a list, one after the other: pc n is at call n
 abbrev pub calling : List Call → Cpu → (ℕ → ℕ) → Act Cpu
 calling cs c see = call (getD cs (c .pc) (hear 11)) (λ ws. record { pc = suc (c .pc); registers = c .registers })
 
--- object 0 a pool of 3 frames, 1 a line, 2 a port, 3 a page, 4 a table of 12 slots, 5 and 6 threads with that table;
+-- object 0 a pool of 3 frames, 1 a line, 2 a port, 3 a page, 4 a table of 12 slots, 5 and 6 threads with that table and an empty space;
 -- slots 0 to 6 hold objects 0 to 6 with all rights, but the pool with rights r; thread 5 begins at pc 0, thread 6 at pc 4
 abbrev pub slots : Rights → List Slot
 slots r =
@@ -38,7 +38,7 @@ slots r =
 abbrev pub small : Rights → World Cpu
 small r =
     record {
-      objects = pool 0 12288 0 ∷ line [] [] ∷ port 0 [] ∷ page 0 (replicate 4096 0) ∷ table 0 (slots r) ∷ thread 0 ready (fresh 0) 5 [] [] ∷ thread 0 ready (fresh 4) 5 [] [] ∷ [];
+      objects = pool 0 12288 0 ∷ line [] [] ∷ port 0 [] ∷ page 0 (replicate 4096 0) ∷ table 0 (slots r) ∷ thread 0 ready (fresh 0) 5 (replicate 64 0) (replicate 64 false) ∷ thread 0 ready (fresh 4) 5 (replicate 64 0) (replicate 64 false) ∷ [];
       births = 7;
       lineage = [];
     }
@@ -48,6 +48,12 @@ abbrev pub Starts : Type 0
 Starts =
     (f : ℕ → Cpu) (a : Cpu → (ℕ → ℕ) → Act Cpu) →
     Parted Cpu f a (λ o. true) (small all) × Kinds Cpu f a (small all) × Uncut Cpu f a (small all) × ((o g n u : ℕ) → object Cpu f a (small all) o ≡ pool g n u → u ≤ n)
+
+-- and it is one that an image can carry: of new objects, and it fits, if there are frames for it
+abbrev pub Carried : Type 0
+Carried =
+    (a : Cpu → (ℕ → ℕ) → Act Cpu) → ((o : ℕ) → o < 7 → New Cpu fresh a board (object Cpu fresh a (small all) o)) ×
+    ((frames : List (Object Cpu) → ℕ) → frames (small all .objects) ≤ 4096 → Fits Cpu fresh a frames (small all))
 
 -- a cut that the pool is large enough for, and one that it is too small for
 abbrev pub Cuts : Type 0
@@ -77,7 +83,7 @@ talks = calling (send 2 (1 ∷ 2 ∷ 3 ∷ 4 ∷ []) false 0 ∷ hear 11 ∷ hea
 
 abbrev pub Meets : Type 0
 Meets =
-    ((c : Cpu) × (then : List ℕ → Cpu) × (object Cpu fresh talks (run Cpu fresh talks board (small all) (tick 6 ∷ [])) 6 ≡ thread 0 (waits 2 then) c 5 [] [])) ×
+    ((c : Cpu) × (then : List ℕ → Cpu) × (object Cpu fresh talks (run Cpu fresh talks board (small all) (tick 6 ∷ [])) 6 ≡ thread 0 (waits 2 then) c 5 (replicate 64 0) (replicate 64 false))) ×
     (met-at 2 (log Cpu fresh talks board (small all) (tick 6 ∷ tick 5 ∷ [])) ≡ got-by (message 5 0 (1 ∷ 2 ∷ 3 ∷ 4 ∷ [])) 6 ∷ [])
 
 -- two sets that hold nothing of each other: a line, a table and a thread each. The second set's capability has rights r, and its thread begins at pc n

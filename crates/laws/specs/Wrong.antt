@@ -24,7 +24,7 @@ copied-wide (cap o q c j m) r b i = cap o r (pick (eqb c 0) b c) i j
 abbrev pub Copy-tested : Type 0
 Copy-tested = Copies-less copied × (Copies-less copied-wide → ⊥)
 
--- REVOKE. No-twice objects are swept, no slot of any table has one of the births
+-- REVOKE. Once objects are swept, no slot of any table has one of the births
 abbrev pub Sweeps-all : (List ℕ → List ℕ → ℕ → List (Object Cpu) → List (Object Cpu)) → Type 0
 Sweeps-all g =
     (fresh : ℕ → Cpu) (act : Cpu → (ℕ → ℕ) → Act Cpu) (ids os : List ℕ) (xs : List (Object Cpu)) (o i : ℕ) (y : Slot) →

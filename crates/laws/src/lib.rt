@@ -1,6 +1,6 @@
 // The laws of the abstract world: each function's contract names one.
 ghost use Rattle.laws.specs.Laws.{Within, Cut-exactly, No-more, Revoked, Revoked-any-fails, Held-is-there, Nothing-dangles, Unreached, First-come, Comes-back, At-once, Image-starts};
-ghost use Rattle.laws.specs.Examples.{Starts, Cuts, Makes, Meets, Parts};
+ghost use Rattle.laws.specs.Examples.{Starts, Carried, Cuts, Makes, Meets, Parts};
 ghost use Rattle.laws.specs.Wrong.{Copy-tested, Revoke-tested, Port-tested, Hand-on-tested};
 
 // A pool is never overdrawn.
@@ -66,6 +66,11 @@ pub fn images_are_starts()
 // A small world is a start: it is parted from nothing, of right kinds, and its threads were not cut.
 pub fn example_start()
     ensures { λ _. ⌜ Starts ⌝ }
+{}
+
+// That world is one that an image can carry.
+pub fn example_carried()
+    ensures { λ _. ⌜ Carried ⌝ }
 {}
 
 // A cut that a pool is large enough for, and one that it is too small for.

@@ -1,5 +1,5 @@
-use Rattle.laws.proofs.Worked.{cuts}
+use Rattle.laws.proofs.Worked.{cut-both-ways}
 use Rattle.laws.proofs.example_cuts.Needs as need
 
 pub returns : need.returns
-returns c = cuts
+returns c = cut-both-ways

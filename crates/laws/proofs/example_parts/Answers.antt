@@ -1,4 +1,4 @@
-use Rattle.laws.proofs.Two.{parts}
+use Rattle.laws.proofs.ExampleSets.{parts}
 use Rattle.laws.proofs.example_parts.Needs as need
 
 pub returns : need.returns

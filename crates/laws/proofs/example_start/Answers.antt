@@ -1,4 +1,4 @@
-use Rattle.laws.proofs.Small.{starts}
+use Rattle.laws.proofs.ExampleWorld.{starts}
 use Rattle.laws.proofs.example_start.Needs as need
 
 pub returns : need.returns

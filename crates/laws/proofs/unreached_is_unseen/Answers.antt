@@ -1,5 +1,5 @@
 use Rattle.rv32.specs.declared.registers.Cpu.{Cpu}
-use Rattle.laws.proofs.Run.{unreached}
+use Rattle.laws.proofs.Unseen.{unreached}
 use Rattle.laws.proofs.unreached_is_unseen.Needs as need
 
 pub returns : need.returns

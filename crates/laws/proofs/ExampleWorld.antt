@@ -1,17 +1,25 @@
 -- The small worlds are starts, and what is said of them holds.
 use mathlib.Core.Path.{_≡_, refl, sym, ap, subst, _∙_}
-use mathlib.Core.Bool.{Bool, true}
+use mathlib.Core.Bool.{Bool, true, false}
 use mathlib.Core.List.{List, []}
 use Prim.Native.Nat.{ℕ, zero, suc, _<_}
 use native.Mathlib.Omega.{arith}
 use lib.Dec.{lit≤}
-use lib.ListN.{getD}
+use lib.ListN.{getD, replicate, length-replicate}
+use Rattle.rv32.specs.Registers.{fresh as new-core}
 use Rattle.rv32.specs.declared.registers.Cpu.{Cpu}
-use Rattle.rights.specs.World.{Rights, empty, cap, Act, Wait, State, ready, waits, Object, gone, pool, port, thread, object, slots-of, from-of}
-use Rattle.rights.specs.Promise.{Parted, Kinds, Uncut}
-use Rattle.laws.specs.Examples.{all, slots, small, Starts}
+use Rattle.rights.specs.World.{Rights, empty, cap, Act, wrong, Wait, State, ready, waits, Object, gone, pool, port, thread, object, slots-of, from-of}
+use Rattle.rights.specs.Promise.{Parted, New, new-pool, new-table, new-port, new-page, new-thread, new-line, births-in, all-births, up-from, threads}
+use Rattle.rights.specs.Promise.{lines, Kinds, Uncut}
+use Rattle.laws.specs.Examples.{board, all, slots, small, Starts, Carried}
 use Rattle.laws.proofs.Tests.{clash}
 use Rattle.laws.proofs.Steps.{awake}
+
+-- a list of zeros
+zeros : (n k : ℕ) → _≡_ {A = ℕ} (getD (replicate n 0) k 0) 0
+zeros zero k = refl
+zeros (suc n) zero = refl
+zeros (suc n) (suc k) = zeros n k
 
 module _ (fresh : ℕ → Cpu) (act : Cpu → (ℕ → ℕ) → Act Cpu) (r : Rights) where
   abbrev obj : ℕ → Object Cpu
@@ -55,7 +63,7 @@ module _ (fresh : ℕ → Cpu) (act : Cpu → (ℕ → ℕ) → Act Cpu) (r : Ri
   there (suc (suc (suc (suc (suc (suc zero)))))) h e = clash (cc)
   there (suc (suc (suc (suc (suc (suc (suc u))))))) h e = absurd (omega arith)
 
-  threads-are : (o f t : ℕ) (s : State Cpu) (c : Cpu) (ps : List ℕ) (rs : List Bool) → obj o ≡ thread f s c t ps rs → (f ≡ 0) × (s ≡ ready) × (t ≡ 5) × (ps ≡ [])
+  threads-are : (o f t : ℕ) (s : State Cpu) (c : Cpu) (ps : List ℕ) (rs : List Bool) → obj o ≡ thread f s c t ps rs → (f ≡ 0) × (s ≡ ready) × (t ≡ 5) × (ps ≡ replicate 64 0)
   unfolding object
   threads-are zero f t s c ps rs e = clash (cc)
   threads-are (suc zero) f t s c ps rs e = clash (cc)
@@ -99,8 +107,8 @@ module _ (fresh : ℕ → Cpu) (act : Cpu → (ℕ → ℕ) → Act Cpu) (r : Ri
   uncut-all (suc (suc (suc (suc (suc (suc zero)))))) = refl
   uncut-all (suc (suc (suc (suc (suc (suc (suc o))))))) = refl
 
-  nothing-at : (k u : ℕ) → getD {A = ℕ} [] k 0 ≡ suc u → ⊥
-  nothing-at k u e = omega arith
+  nothing-at : (k u : ℕ) → getD (replicate 64 0) k 0 ≡ suc u → ⊥
+  nothing-at k u e = let h = zeros 64 k in omega arith
 
   pub small-parted : Parted Cpu fresh act (λ o. true) (small r)
   small-parted =
@@ -132,3 +140,38 @@ pub starts : Starts
 unfolding Uncut
 starts f a =
     (small-parted f a all, small-kinds f a all, (λ o g t s c ps rs e. threads-are f a all o g t s c ps rs e .0), λ o g n u e. let h = pools-are f a all o g n u e in omega arith)
+
+-- what the slots hold has no badge
+unbadged : (i u b j m : ℕ) (q : Rights) → getD (slots all) i empty ≡ cap u q b j m → b ≡ 0
+unbadged zero u b j m q e = cc
+unbadged (suc zero) u b j m q e = cc
+unbadged (suc (suc zero)) u b j m q e = cc
+unbadged (suc (suc (suc zero))) u b j m q e = cc
+unbadged (suc (suc (suc (suc zero)))) u b j m q e = cc
+unbadged (suc (suc (suc (suc (suc zero))))) u b j m q e = cc
+unbadged (suc (suc (suc (suc (suc (suc zero)))))) u b j m q e = cc
+unbadged (suc (suc (suc (suc (suc (suc (suc i))))))) u b j m q e = let h = place (λ n. new-core n) (λ c see. wrong) all (suc (suc (suc (suc (suc (suc (suc i))))))) u b j m q e in let g = h .0 in absurd (omega arith)
+
+pub carried : Carried
+unfolding object all-births births-in slots-of up-from threads lines
+carried a = (
+  news,
+  λ frames h. record {
+    badges = λ o i u b j m q e. let f = full new-core a all o i u b j m q e in let g = f .0 in
+        let d : b ≡ 0 = unbadged i u b j m q (subst (λ (k : ℕ). getD (slots-of Cpu new-core a (object Cpu new-core a (small all) k)) i empty ≡ cap u q b j m) g e) in omega arith;
+    in-order = refl;
+    few = (lit≤ tt, lit≤ tt, h);
+    its-table = small-kinds new-core a all .its-table;
+    its-pages = small-kinds new-core a all .its-pages;
+  },
+)
+  where
+    news : (o : ℕ) → o < 7 → New Cpu new-core a board (object Cpu new-core a (small all) o)
+    news zero l = new-pool {n = 3} (lit≤ tt) (lit≤ tt)
+    news (suc zero) l = new-line
+    news (suc (suc zero)) l = new-port
+    news (suc (suc (suc zero))) l = new-page (length-replicate {A = ℕ} 4096 0) (λ k. let h = zeros 4096 k in omega arith)
+    news (suc (suc (suc (suc zero)))) l = new-table (lit≤ tt) (lit≤ tt)
+    news (suc (suc (suc (suc (suc zero))))) l = new-thread {a = 0} (length-replicate {A = ℕ} 64 0) (length-replicate 64 false) (lit≤ tt)
+    news (suc (suc (suc (suc (suc (suc zero)))))) l = new-thread {a = 4} (length-replicate {A = ℕ} 64 0) (length-replicate 64 false) (lit≤ tt)
+    news (suc (suc (suc (suc (suc (suc (suc o))))))) l = absurd (omega arith)

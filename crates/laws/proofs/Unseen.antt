@@ -11,13 +11,13 @@ use Rattle.rights.specs.World.{pick, empty, Act, Object, gone, Sizes, World, Ev
 use Rattle.rights.specs.World.{shown-by}
 use Rattle.rights.specs.Promise.{Parted, mine, only, Unreached}
 use Rattle.laws.proofs.Tests.{yes-no}
-use Rattle.laws.proofs.Cuttings.{sat}
+use Rattle.laws.proofs.CutFrom.{sat}
 use Rattle.laws.proofs.Steps.{one}
 use Rattle.laws.proofs.Pools.{Dull-from, dull-event, dull-first, idle-t, idle-b}
 use Rattle.laws.proofs.Tied.{Ties, Agree, ObjT, gone-t, pool-t, table-t, port-t, page-t, thread-t, line-t}
-use Rattle.laws.proofs.Kin.{a-cuttings}
+use Rattle.laws.proofs.Kindred.{a-cuttings}
 use Rattle.laws.proofs.Frames.{Parts, Ours, our-tick, our-byte, Theirs, their-tick, their-byte}
-use Rattle.laws.proofs.First.{Own, ties, alone, masked-same, parts-first}
+use Rattle.laws.proofs.Beginning.{Own, ties, alone, masked-same, parts-first}
 
 module _ (Cpu : Type 0) (fresh : ℕ → Cpu) (act : Cpu → (ℕ → ℕ) → Act Cpu) where
   o-shown : {d : Bool} {t : Ties} {x y : Object Cpu} → ObjT Cpu d t x y → shown-by Cpu fresh act x ≡ shown-by Cpu fresh act y

@@ -10,7 +10,7 @@ use native.Mathlib.Nat.{suc-add, add-comm, zero-add}
 use Rattle.rights.specs.World.{pick, Slot, Act, Object, World, slot-birth, slot-mother, is-empty, among, object, from-of, made-from, offspring}
 use Rattle.rights.specs.World.{cut-in, cuttings}
 use Rattle.laws.proofs.Tests.{no-yes, pick-two, and-false, among-++}
-use Rattle.laws.proofs.Cuttings.{test, at-cut}
+use Rattle.laws.proofs.CutFrom.{test, at-cut}
 use Rattle.laws.proofs.Steps.{one}
 use Rattle.laws.proofs.Tied.{Ties, Ref, none, Each, nil, cons, From, Lin, lin-nil, lin-both, lin-left, lin-right, Up, up-nil, up-cons, Agree, ref-in}
 use Rattle.laws.proofs.Tied.{ObjT, gone-t, pool-t, table-t, port-t, page-t, thread-t, line-t, Tied}
