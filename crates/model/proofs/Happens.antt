@@ -51,6 +51,16 @@ does-same v so q (call.Go t a) = go-same v q t a
 does-same v so q (call.Say s b) = say-same v q s b
 does-same v so q (call.Hear s) = hear-same v q s
 
+-- what is a page, with its bytes
+page-of : (x : p.Thing) → ((f : Option ℕ) (bs : List ℕ) → x ≡ p.page f bs → length bs ≡ 4096) → calls.is-page x ≡ true → (f : Option ℕ) × (bs : List ℕ) × (x ≡ p.page f bs) × (length bs ≡ 4096)
+page-of p.gone h e = absurd (let z : _≡_ {A = ℕ} 0 1 = cc in omega arith)
+page-of (p.pool f n u) h e = absurd (let z : _≡_ {A = ℕ} 0 1 = cc in omega arith)
+page-of (p.table f ss) h e = absurd (let z : _≡_ {A = ℕ} 0 1 = cc in omega arith)
+page-of (p.port f q) h e = absurd (let z : _≡_ {A = ℕ} 0 1 = cc in omega arith)
+page-of (p.page f bs) h e = (f, bs, refl, h f bs refl)
+page-of (p.thread t) h e = absurd (let z : _≡_ {A = ℕ} 0 1 = cc in omega arith)
+page-of (p.line xs ys) h e = absurd (let z : _≡_ {A = ℕ} 0 1 = cc in omega arith)
+
 -- A STEP of thread q, which is t
 module _ (v : p.Whole) (so : Sound v) (q : ℕ) (t : Thread) (e : p.object v q ≡ p.thread t) where
   abbrev acts : w.Act Cpu → w.World Cpu
@@ -62,7 +72,7 @@ module _ (v : p.Whole) (so : Sound v) (q : ℕ) (t : Thread) (e : p.object v q �
       ap (λ x. world-of (p.on-some (turns.may-store x a (length bs)) (turns.with-thread v q Stopped (fresh 0))
       (λ o. turns.with-thread (p.with-object v o (turns.stored (a % 4096) bs (p.object v o))) q Ready (next (turns.cpu-of x))))) e
       ∙ store-by v q a bs (next (t .cpu)) (getD (t .pages) (a / 4096) None) (getD (map number-of (t .pages)) (a / 4096) 0) (getD (t .writes) (a / 4096) false) (leb (a % 4096 + length bs) 4096)
-      (read-any number-of (t .pages) (a / 4096) None) (λ h. leb-true _ _ h) (λ o h. so .paged q (a / 4096) o t e h)
+      (read-any number-of (t .pages) (a / 4096) None) (λ h. leb-true _ _ h) (λ o h. page-of (p.object v o) (so .full o) (so .paged q (a / 4096) o t e h))
 
   cpu-is : turns.cpu-of (p.object v q) ≡ t .cpu
   cpu-is = ap turns.cpu-of e

@@ -12,3 +12,5 @@ pub mod Kin
 pub mod Revoked
 pub mod Happens
 pub mod Small
+pub mod Keeping
+pub mod Kept

@@ -58,6 +58,14 @@ pages-none (suc (suc zero)) k t e = absurd (let z : _≡_ {A = ℕ} 0 1 = cc in 
 pages-none (suc (suc (suc zero))) k t e = let f : replicate 64 None ≡ t .pages = cc in ap (λ ps. getD ps k None) (sym f) ∙ nowhere None 64 k
 pages-none (suc (suc (suc (suc q)))) k t e = absurd (let z : _≡_ {A = ℕ} 0 1 = cc in omega arith)
 
+no-page : (o : ℕ) (f : Option ℕ) (bs : List ℕ) → p.object small o ≡ p.page f bs → length bs ≡ 4096
+unfolding p.object
+no-page zero f bs e = absurd (let z : _≡_ {A = ℕ} 0 1 = cc in omega arith)
+no-page (suc zero) f bs e = absurd (let z : _≡_ {A = ℕ} 0 1 = cc in omega arith)
+no-page (suc (suc zero)) f bs e = absurd (let z : _≡_ {A = ℕ} 0 1 = cc in omega arith)
+no-page (suc (suc (suc zero))) f bs e = absurd (let z : _≡_ {A = ℕ} 0 1 = cc in omega arith)
+no-page (suc (suc (suc (suc o)))) f bs e = absurd (let z : _≡_ {A = ℕ} 0 1 = cc in omega arith)
+
 pub small-is-sound : Small-is-sound
 unfolding Dense
 small-is-sound =
@@ -66,5 +74,6 @@ small-is-sound =
       counted = refl;
       born = all-born;
       after = uncut;
+      full = no-page;
       paged = λ q k o t e h. absurd (no-some o (sym (pages-none q k t e) ∙ h));
     }

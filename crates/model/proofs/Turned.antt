@@ -114,9 +114,6 @@ stored-is v o k bs f old e h =
 stopped-is : (v : p.Whole) (q : ℕ) → world-of (turns.with-thread v q Stopped (fresh 0)) ≡ with-object (world-of v) q (w.set-state Cpu fresh act (object (world-of v) q) w.stopped (fresh 0))
 stopped-is v q = thread-world v q Stopped (fresh 0)
 
-abbrev Paged : p.Whole → Type 0
-Paged v = (q k o : ℕ) (t : Thread) → p.object v q ≡ p.thread t → getD (t .pages) k None ≡ Some o → (f : Option ℕ) × (bs : List ℕ) × (p.object v o ≡ p.page f bs) × (length bs ≡ 4096)
-
 -- what a store leaves, by the page and the test
 abbrev store-done : w.World Cpu → ℕ → Cpu → ℕ → ℕ → List ℕ → w.World Cpu
 store-done v q c o k bs = with-object (stored-world v o k bs) q (w.set-state Cpu fresh act (object (stored-world v o k bs) q) w.ready c)
