@@ -1,16 +1,16 @@
 -- From a reader's answer back to what was read.
-use Rattle.std.proofs.Common.{◌≡◌, ℕ, zero, suc, ◌+◌, ◌-◌, ◌*◌, ◌/◌, ◌%◌, ◌<◌, ◌≤◌, Bool, true, false, cond, ◌&&◌, ◌||◌, eqb, ltb, leb, ◌⊎◌, List, [], ◌∷◌, ◌++◌, length, get_or, Some, None, Ok, Err, Option, sym, refl, ap, ◌∙◌, subst, inl, inr, arith}
+use Rattle.std.proofs.Common.{◌≡◌, ℕ, zero, suc, ◌+◌, ◌-◌, ◌<◌, ◌≤◌, Bool, true, List, length, get_or, Some, None, Ok, Option, sym, refl, ap, ◌∙◌, subst, inl, inr, arith}
 use Rattle.std.proofs.lemmas.Bool.{lt-ltb, le-ltb, eq-eqb, ne_eqb, cases_eq, cases_lt, cases_Bool}
 use Rattle.std.proofs.lemmas.Bool.Decides.{nat_tests}
 use Rattle.rights.specs.declared.kinds.Kind.{Kind}
 use Rattle.rights.specs.declared.kinds.Kind.TheVariants.{Pool, Table, Port, Page, Thread, Line}
 use Rattle.rights.specs.declared.refusals.Refusal.{Refusal}
 use Rattle.rights.specs.Vocabulary.{kind_number, kind_from}
-use Rattle.rights.specs.World.{Slot, empty, cap}
+use Rattle.rights.specs.World.{Slot}
 use Rattle.image.specs.declared.census.Census.{Census}
 use Rattle.image.specs.declared.census.Kinds.{Kinds}
 use Rattle.image.specs.declared.content.Entry.TheVariants.{Mapping}
-use Rattle.image.specs.Fields.{one, two, Read, past, judged, given, ◌then◌, each}
+use Rattle.image.specs.Fields.{one, two, past, given, each}
 use Rattle.image.specs.Format.{head_at, size_at, lets_in, if_let_in, kind_at, counted, right_size, header, slot, mapping, entries, state, names}
 use Rattle.image.specs.Meaning.{four, slots_from, pages_from, marks_from, bytes_from, pairs}
 use Rattle.image.proofs.Sized.{then_back, judged_back, past_back}

@@ -1,5 +1,5 @@
 -- Births in the order of slots: each is given once, and they are the numbers from 1 on.
-use Rattle.std.proofs.Common.{◌≡◌, ℕ, zero, suc, ◌+◌, ◌<◌, ◌≤◌, List, [], ◌∷◌, ◌++◌, length, get_or, sym, refl, ap, ◌∙◌, subst, add-zero, arith}
+use Rattle.std.proofs.Common.{◌≡◌, ℕ, zero, suc, ◌+◌, ◌≤◌, List, [], ◌∷◌, ◌++◌, get_or, refl, ap, subst, add-zero, arith}
 use Rattle.rights.specs.World.{Object, Slot, Rights, empty, cap, gone, slots_of}
 use Rattle.rights.specs.Promise.{births_in, all_births, up_from}
 use Rattle.rv32.specs.declared.registers.Cpu.{Cpu}

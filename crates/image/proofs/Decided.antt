@@ -1,5 +1,5 @@
 -- What of an image decides about it: the whole reading, and refusals that do not depend on what follows.
-use Rattle.std.proofs.Common.{◌≡◌, ℕ, zero, suc, ◌+◌, ◌*◌, ◌<◌, ◌≤◌, min, Bool, true, false, cond, not, ◌&&◌, ◌||◌, eqb, ltb, leb, ◌⊎◌, List, length, get_or, Ok, Err, sym, refl, ap, ◌∙◌, subst, inl, inr, arith}
+use Rattle.std.proofs.Common.{◌≡◌, ℕ, ◌<◌, ◌≤◌, min, Bool, true, false, not, ◌||◌, eqb, leb, ◌⊎◌, List, length, Ok, Err, sym, refl, ap, ◌∙◌, subst, inl, inr, arith}
 use Rattle.std.proofs.lemmas.Bool.{cases_lt, cases_Bool, le-leb, lt-leb, lt-ltb}
 use Rattle.std.proofs.lemmas.Bool.Decides.{nat_tests}
 use Rattle.rights.specs.declared.refusals.Refusal.{Refusal}
@@ -7,12 +7,12 @@ use Rattle.rights.specs.declared.refusals.Refusal.TheVariants.{Length, Magic, Va
 use Rattle.rights.specs.Vocabulary.{refusal_number}
 use Rattle.image.specs.declared.census.Census.{Census}
 use Rattle.image.specs.declared.census.Kinds.{Kinds}
-use Rattle.image.specs.Fields.{one, two, Read, ◌then◌, past, judged}
+use Rattle.image.specs.Fields.{one, two, Read, ◌then◌, judged}
 use Rattle.image.specs.Format.{head_at, differs, magic, count, headers, body}
 use Rattle.image.specs.Layout.{frames_for}
 use Rattle.image.specs.Prefix.{SameBelow, field_end, DecidedEarly, Goes_on}
 use Rattle.image.specs.Verdict.{verdict}
-use Rattle.image.proofs.Told.{Told, Halt, lower, longer, told_same, told_then, told_past, told_test, told_ok}
+use Rattle.image.proofs.Told.{Told, Halt, longer, told_then, told_past, told_test, told_ok}
 use Rattle.image.proofs.Early.{same_two, headers_told, body_told}
 
 -- readers one after the other, grouped otherwise

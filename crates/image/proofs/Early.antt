@@ -1,20 +1,18 @@
 -- The readers of an image look at no byte beyond the field at hand.
-use Rattle.std.proofs.Common.{◌≡◌, ℕ, zero, suc, ◌+◌, ◌-◌, ◌*◌, ◌%◌, ◌<◌, ◌≤◌, Bool, true, false, cond, ◌&&◌, ◌||◌, eqb, ltb, leb, ◌⊎◌, List, length, get_or, Ok, Err, sym, refl, ap, ◌∙◌, subst, inl, inr, arith}
-use Rattle.std.proofs.lemmas.Bool.{cases_lt, cases_Bool, cases_eq, le-leb, lt-leb, ltb-true, eqb-true, lt-ltb, le-ltb, eq-eqb, ne_eqb}
-use Rattle.std.proofs.lemmas.Bool.Decides.{nat_tests}
+use Rattle.std.proofs.Common.{◌≡◌, ℕ, suc, ◌+◌, ◌-◌, ◌%◌, ◌<◌, ◌≤◌, Bool, true, false, cond, ◌&&◌, ◌||◌, eqb, leb, List, length, Ok, refl, ap, ◌∙◌, subst, inl, inr, arith}
+use Rattle.std.proofs.lemmas.Bool.{cases_lt, cases_Bool, cases_eq, le-leb, lt-leb, lt-ltb, le-ltb, eq-eqb, ne_eqb}
 use Rattle.rights.specs.declared.kinds.Kind.{Kind}
 use Rattle.rights.specs.declared.kinds.Kind.TheVariants.{Pool, Table, Port, Page, Thread, Line}
-use Rattle.rights.specs.declared.refusals.Refusal.{Refusal}
-use Rattle.rights.specs.declared.refusals.Refusal.TheVariants.{Length, Magic, Value, Name, Frames, Event}
+use Rattle.rights.specs.declared.refusals.Refusal.TheVariants.{Value, Name}
 use Rattle.rights.specs.Vocabulary.{kind_number, kind_from}
 use Rattle.image.specs.declared.census.Census.{Census}
 use Rattle.image.specs.declared.census.Kinds.{Kinds}
 use Rattle.image.specs.declared.content.Entry.{Entry}
 use Rattle.image.specs.declared.content.Entry.TheVariants.{Slot, Mapping}
-use Rattle.image.specs.Fields.{one, two, Read, ◌then◌, past, judged, given, each}
+use Rattle.image.specs.Fields.{one, two, Read, ◌then◌, past, judged}
 use Rattle.image.specs.Format.{head_at, is_a, size_at, names, slot, mapping, entry, entries, state, content, part, section, body, header, headers, kind_at, if_let_in, counted, right_size}
 use Rattle.image.specs.Prefix.{SameBelow, field_end}
-use Rattle.image.proofs.Told.{Told, Judging, lower, longer, told_same, told_then, told_past, told_test, told_given, told_ok, told_each}
+use Rattle.image.proofs.Told.{Told, longer, told_same, told_then, told_past, told_test, told_given, told_ok, told_each}
 
 module _ (bs cs : List ℕ) (n : ℕ) where
   -- the field of a value among the contents has one byte

@@ -1,10 +1,8 @@
 -- Every allowed world has an image.
-use Rattle.std.proofs.Common.{◌≡◌, ℕ, ◌+◌, ◌<◌, ◌≤◌, List, [], ◌∷◌, ◌++◌, length, get_or, sym, refl, ap, ◌∙◌, subst}
+use Rattle.std.proofs.Common.{◌≡◌, ℕ, List, length, sym, refl, ap, ◌∙◌, subst}
 use Rattle.rights.specs.World.{World, Sizes, Object}
 use Rattle.rights.specs.Promise.{HoldsAll}
 use Rattle.rv32.specs.declared.registers.Cpu.{Cpu}
-use Rattle.rv32.specs.Registers.{fresh}
-use Rattle.rv32.specs.Execute.{act}
 use Rattle.image.specs.declared.census.Kinds.{Kinds}
 use Rattle.image.specs.Meaning.{encode, world_of, births_all}
 use Rattle.image.specs.Allowed.{Bytes, Taken, Allowed, Holds}
@@ -12,7 +10,7 @@ use Rattle.image.proofs.Stands.{At, Alls, at_whole}
 use Rattle.image.proofs.Births.{order_all}
 use Rattle.image.specs.Verdict.{built, all_kinds}
 use Rattle.image.proofs.Objects.{LetIn}
-use Rattle.image.proofs.Whole.{Parts, parts, is_taken, objects_come}
+use Rattle.image.proofs.Whole.{parts, is_taken, objects_come}
 use Rattle.image.proofs.Carried.{placed_all, all_good, all_let_in, thin_let_in}
 use Rattle.image.proofs.Small.{low_image}
 

@@ -1,20 +1,15 @@
 -- Files of which only the first bytes are read.
-use Rattle.std.proofs.Common.{◌≡◌, ℕ, zero, suc, ◌+◌, ◌<◌, ◌≤◌, Bool, true, false, cond, ◌&&◌, ◌||◌, eqb, ltb, leb, ◌⊎◌, List, length, get_or, take, Ok, Err, sym, refl, ap, ◌∙◌, subst, inl, inr, arith}
+use Rattle.std.proofs.Common.{◌≡◌, ℕ, ◌<◌, ◌≤◌, ltb, ◌⊎◌, List, length, take, Ok, Err, sym, refl, ap, ◌∙◌, inl, inr, arith}
 use Rattle.std.proofs.lemmas.List.{length-take-le, get_or-take, take_all}
-use Rattle.std.proofs.lemmas.Bool.{cases_lt, cases_eq, cases_Bool, lt-ltb, le-ltb, le-leb, lt-leb, eq-eqb, ne_eqb}
-use Rattle.std.proofs.lemmas.Bool.Decides.{nat_tests}
-use Rattle.rights.specs.declared.kinds.Kind.{Kind}
-use Rattle.rights.specs.declared.kinds.Kind.TheVariants.{Thread, Line}
+use Rattle.std.proofs.lemmas.Bool.{cases_lt, lt-ltb, le-ltb}
 use Rattle.rights.specs.declared.refusals.Refusal.{Refusal}
 use Rattle.rights.specs.declared.refusals.Refusal.TheVariants.{Length, Magic, Value, Name, Frames, Event}
-use Rattle.rights.specs.Vocabulary.{refusal_number, refusal_place}
+use Rattle.rights.specs.Vocabulary.{refusal_number}
 use Rattle.image.specs.declared.census.Census.{Census}
 use Rattle.image.specs.declared.census.Kinds.{Kinds}
-use Rattle.image.specs.Fields.{one, two, Read, ◌then◌, judged}
-use Rattle.image.specs.Format.{is_a}
-use Rattle.image.specs.Events.{event_of, event, events_from, events}
-use Rattle.image.specs.Limits.{going_on, part_verdict, cut_in_two, events_going_on, part_events}
-use Rattle.image.specs.Prefix.{SameBelow, field_end, LimitHolds, NeverTaken, FaultsTold, event_end, EventsLimitHolds, EventFaultsTold}
+use Rattle.image.specs.Fields.{two, Read}
+use Rattle.image.specs.Limits.{going_on, part_verdict}
+use Rattle.image.specs.Prefix.{SameBelow, field_end, LimitHolds, NeverTaken, FaultsTold}
 use Rattle.image.specs.Verdict.{verdict}
 use Rattle.image.proofs.Decided.{decided_early, goes_on, length_inside, never_event}
 

@@ -1,5 +1,5 @@
 -- Objects lie apart in the frames.
-use Rattle.std.proofs.Common.{◌≡◌, ℕ, zero, suc, ◌+◌, ◌-◌, ◌*◌, ◌/◌, ◌%◌, ◌<◌, ◌≤◌, Bool, true, false, cond, ◌||◌, eqb, List, Some, sym, refl, ap, ◌∙◌, subst, arith}
+use Rattle.std.proofs.Common.{◌≡◌, ℕ, zero, suc, ◌+◌, ◌-◌, ◌*◌, ◌/◌, ◌<◌, ◌≤◌, Bool, true, false, cond, ◌||◌, List, Some, sym, refl, ap, ◌∙◌, subst, arith}
 use Rattle.std.proofs.lemmas.Bool.{cond_both, eqb-true}
 use Rattle.std.proofs.lemmas.Bool.Decides.{nat_tests}
 use Rattle.rights.specs.World as world
@@ -9,7 +9,7 @@ use Rattle.rights.specs.Vocabulary.{kind_number}
 use Rattle.image.specs.Apart.{own_frames, Laid_out, board_sizes, as_cut, LiesApart}
 use Rattle.image.specs.Fields.{one}
 use Rattle.image.specs.Format.{head_at, is_a, size_at}
-use Rattle.image.specs.Layout.{frame_up, begins, takes, filled, place, frames_for}
+use Rattle.image.specs.Layout.{frame_up, begins, takes, filled, place}
 
 -- the last of some objects, taken for itself
 one_more : (bs : List ℕ) (k o u : ℕ) → filled bs (suc k) o u ≡ begins bs (o + k) (filled bs k o u) + takes bs (o + k)

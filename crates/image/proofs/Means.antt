@@ -1,5 +1,5 @@
 -- An image that is taken means an allowed world.
-use Rattle.std.proofs.Common.{◌≡◌, ℕ, zero, suc, ◌+◌, ◌-◌, ◌*◌, ◌/◌, ◌<◌, ◌≤◌, min, Bool, true, false, cond, ◌&&◌, ◌||◌, eqb, leb, ◌≢◌, ◌⊎◌, List, [], ◌∷◌, length, get_or, Ok, Err, sym, refl, ap, ◌∙◌, subst, inl, inr, arith}
+use Rattle.std.proofs.Common.{◌≡◌, ℕ, zero, suc, ◌+◌, ◌-◌, ◌*◌, ◌/◌, ◌<◌, ◌≤◌, min, Bool, true, ◌&&◌, leb, ◌≢◌, List, [], ◌∷◌, length, get_or, Ok, sym, refl, ap, ◌∙◌, subst, inl, inr, arith}
 use lib.Dec.{eqb-suc-zero}
 use Rattle.std.proofs.lemmas.List.{get_or_past}
 use Rattle.std.proofs.lemmas.Bool.{leb-true, eqb-true, cases_lt, and_parts}
@@ -7,19 +7,19 @@ use Rattle.std.proofs.lemmas.Bool.Decides.{nat_tests}
 use Rattle.rights.specs.declared.kinds.Kind.{Kind}
 use Rattle.rights.specs.declared.kinds.Kind.TheVariants.{Table, Page, Thread}
 use Rattle.rights.specs.Vocabulary.{kind_number}
-use Rattle.rights.specs.World.{World, Sizes, Object, Slot, Rights, State, Wait, empty, cap, gone, pool, table, port, page, thread, line, stopped, ready, waits, slots_of, object}
+use Rattle.rights.specs.World.{World, Sizes, Object, Slot, Rights, State, Wait, empty, cap, gone, pool, table, port, page, thread, line, waits, slots_of, object}
 use Rattle.rights.specs.Promise.{Parted, New, new_pool, new_table, new_port, new_page, new_thread, new_line, Fits, threads, lines}
 use Rattle.rv32.specs.declared.registers.Cpu.{Cpu}
 use Rattle.rv32.specs.Registers.{fresh}
 use Rattle.rv32.specs.Execute.{act}
 use Rattle.image.specs.declared.census.Census.{Census}
 use Rattle.image.specs.declared.census.Kinds.{Kinds}
-use Rattle.image.specs.Fields.{one, two, Read, ◌then◌}
+use Rattle.image.specs.Fields.{one, two}
 use Rattle.image.specs.Format.{head_at, names, is_a, magic, count, headers, body, section}
 use Rattle.image.specs.Layout.{frames_for}
 use Rattle.image.specs.Meaning.{pairs, Places, objects_from, objects_of, births_all, world_of, ready_mark, state_of, kind_of, frames}
 use Rattle.image.specs.Verdict.{verdict}
-use Rattle.image.specs.Allowed.{Bytes, Allowed, MeansAllowed}
+use Rattle.image.specs.Allowed.{MeansAllowed}
 use Rattle.image.proofs.Sized.{then_back, judged_back}
 use Rattle.image.proofs.Stands.{Alls, alls_at}
 use Rattle.image.proofs.Slots.{GoodSlot}

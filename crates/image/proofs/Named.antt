@@ -1,18 +1,18 @@
 -- Events that are taken name threads and lines of the image.
-use Rattle.std.proofs.Common.{◌≡◌, ℕ, zero, suc, ◌+◌, ◌<◌, Bool, true, false, cond, ◌⊎◌, List, [], ◌∷◌, length, get_or, Some, Ok, Err, sym, refl, ap, ◌∙◌, subst, inl, inr, arith}
+use Rattle.std.proofs.Common.{◌≡◌, ℕ, zero, suc, ◌+◌, ◌<◌, List, [], ◌∷◌, length, get_or, Some, Ok, refl, ap, ◌∙◌, subst, inl, inr, arith}
 use Rattle.std.proofs.lemmas.Bool.{lt-ltb, le-ltb, eq-eqb, ne_eqb, cases_lt, cases_eq}
 use Rattle.std.proofs.lemmas.Bool.Decides.{nat_tests}
 use Rattle.rights.specs.declared.kinds.Kind.TheVariants.{Thread}
-use Rattle.rights.specs.World.{World, Object, Event, tick, byte, gone, line, object}
+use Rattle.rights.specs.World.{Event, tick, byte, gone, line, object}
 use Rattle.rights.specs.Promise.{Named}
 use Rattle.rv32.specs.declared.registers.Cpu.{Cpu}
 use Rattle.rv32.specs.Registers.{fresh}
 use Rattle.rv32.specs.Execute.{act}
-use Rattle.image.specs.Fields.{one, two, Read, ◌then◌}
+use Rattle.image.specs.Fields.{one, two, ◌then◌}
 use Rattle.image.specs.Format.{head_at}
-use Rattle.image.specs.Events.{event, events_from, all_events, events}
+use Rattle.image.specs.Events.{event, events_from, all_events}
 use Rattle.image.specs.Meaning.{Places, objects_from, objects_of, world_of, read_as, object_at, after, first_places}
-use Rattle.image.specs.Rows.{row_from, row, MeetsKind, MeetKinds, RowsNamed}
+use Rattle.image.specs.Rows.{row_from, MeetsKind, MeetKinds, RowsNamed}
 use Rattle.image.proofs.Sized.{then_back}
 
 objects_length : (bs : List ℕ) (n k o : ℕ) (q : Places) → length (objects_from bs n k o q) ≡ k

@@ -1,21 +1,21 @@
 -- Objects that an image can carry, and where they stand in it.
-use Rattle.std.proofs.Common.{◌≡◌, ℕ, zero, suc, ◌+◌, ◌-◌, ◌*◌, ◌/◌, ◌%◌, ◌<◌, ◌≤◌, Bool, true, false, cond, ◌||◌, eqb, ltb, leb, ◌⊎◌, List, [], ◌∷◌, ◌++◌, length, get_or, Some, None, Ok, Err, Option, sym, refl, ap, ◌∙◌, subst, inl, inr, add-zero, arith}
+use Rattle.std.proofs.Common.{◌≡◌, ℕ, suc, ◌+◌, ◌*◌, ◌/◌, ◌<◌, ◌≤◌, true, List, [], ◌∷◌, length, get_or, Some, Ok, sym, refl, ap, ◌∙◌, subst, inl, inr, add-zero, arith}
 use Rattle.std.proofs.lemmas.Bool.{eq-eqb, ne_eqb, cases_eq}
 use Rattle.rights.specs.declared.kinds.Kind.{Kind}
 use Rattle.rights.specs.declared.kinds.Kind.TheVariants.{Pool, Table, Port, Page, Thread, Line}
 use Rattle.rights.specs.Vocabulary.{kind_number, kind_from}
-use Rattle.rights.specs.World.{Object, Slot, State, gone, pool, table, port, page, thread, line, stopped, ready, waits, slots_of}
+use Rattle.rights.specs.World.{Object, State, gone, pool, table, port, page, thread, line, stopped, ready, waits, slots_of}
 use Rattle.rv32.specs.declared.registers.Cpu.{Cpu}
 use Rattle.rv32.specs.Registers.{fresh}
 use Rattle.rv32.specs.Execute.{act}
 use Rattle.image.specs.declared.census.Kinds.{Kinds}
-use Rattle.image.specs.Fields.{one, two, Read}
-use Rattle.image.specs.Format.{lets_in, head_at, size_at, is_a, names, content, part}
+use Rattle.image.specs.Fields.{one, two}
+use Rattle.image.specs.Format.{lets_in, head_at, size_at, names, content, part}
 use Rattle.image.specs.Layout.{begins, takes, filled}
-use Rattle.image.specs.Meaning.{two_bytes, all, pairs, Places, state_of, read_as, object_at, pages_from, marks_from, ready_mark, kind_of, size_of, header_bytes, content_bytes, part_bytes, begins_at, takes_up, filled_by}
+use Rattle.image.specs.Meaning.{two_bytes, pairs, Places, state_of, object_at, ready_mark, kind_of, size_of, header_bytes, content_bytes, part_bytes, begins_at, takes_up, filled_by}
 use Rattle.image.proofs.Stands.{At, Alls, at_len, at_two, past_fine}
 use Rattle.image.proofs.Slots.{GoodSlot, Orderly, slots_fine, slots_back}
-use Rattle.image.proofs.Spaces.{GoodMap, ThreadAt, thread_read, thread_length, space_fine, pairs_length, maps_back, bytes_back, state_ok}
+use Rattle.image.proofs.Spaces.{GoodMap, thread_read, thread_length, space_fine, pairs_length, maps_back, bytes_back, state_ok}
 
 -- kinds and their numbers
 pub kind_known : (k : Kind) → kind_from (kind_number k) ≡ Some k

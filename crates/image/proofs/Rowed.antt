@@ -1,17 +1,14 @@
 -- Rows of events of which only the first bytes are read.
-use Rattle.std.proofs.Common.{◌≡◌, ℕ, zero, suc, ◌+◌, ◌<◌, ◌≤◌, Bool, true, false, cond, ◌&&◌, ◌||◌, eqb, ltb, leb, ◌⊎◌, List, length, get_or, take, Ok, Err, sym, refl, ap, ◌∙◌, subst, inl, inr, arith}
+use Rattle.std.proofs.Common.{◌≡◌, ℕ, zero, suc, ◌+◌, ◌<◌, ◌≤◌, false, cond, eqb, ◌⊎◌, List, length, take, Ok, Err, sym, refl, ap, ◌∙◌, subst, inl, inr, arith}
 use Rattle.std.proofs.lemmas.List.{length-take-le, get_or-take, take_all}
-use Rattle.std.proofs.lemmas.Bool.{cases_lt, cases_eq, cases_Bool, lt-ltb, le-ltb, le-leb, lt-leb, eq-eqb, ne_eqb}
+use Rattle.std.proofs.lemmas.Bool.{cases_lt, cases_eq, cases_Bool, lt-ltb, le-ltb, le-leb, eq-eqb, ne_eqb}
 use Rattle.std.proofs.lemmas.Bool.Decides.{nat_tests}
-use Rattle.rights.specs.declared.kinds.Kind.{Kind}
-use Rattle.rights.specs.declared.kinds.Kind.TheVariants.{Thread, Line}
 use Rattle.rights.specs.declared.refusals.Refusal.{Refusal}
 use Rattle.rights.specs.declared.refusals.Refusal.TheVariants.{Event}
 use Rattle.rights.specs.Vocabulary.{refusal_place}
-use Rattle.image.specs.Fields.{one, two, Read, ◌then◌, judged}
-use Rattle.image.specs.Format.{is_a}
-use Rattle.image.specs.Events.{event_of, event, events_from, all_events, events}
-use Rattle.image.specs.Limits.{cut_in_two, events_going_on, part_events}
+use Rattle.image.specs.Fields.{one, two, Read, ◌then◌}
+use Rattle.image.specs.Events.{event, events_from, all_events, events}
+use Rattle.image.specs.Limits.{cut_in_two, events_going_on}
 use Rattle.image.specs.Prefix.{event_end, EventsLimitHolds, EventFaultsTold}
 use Rattle.image.proofs.Turns.{event_grows}
 

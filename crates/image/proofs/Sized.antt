@@ -1,20 +1,18 @@
 -- The length of an image that is taken.
-use Rattle.std.proofs.Common.{◌≡◌, ℕ, zero, suc, ◌+◌, ◌-◌, ◌*◌, ◌<◌, ◌≤◌, min, Bool, true, false, cond, ◌&&◌, ◌||◌, eqb, ltb, leb, ◌⊎◌, List, length, get_or, Ok, Err, sym, refl, ap, ◌∙◌, subst, inl, inr, arith}
-use Rattle.std.proofs.lemmas.Bool.{cases_Bool, cases_lt, le-leb, lt-leb, leb-true}
+use Rattle.std.proofs.Common.{◌≡◌, ℕ, zero, suc, ◌+◌, ◌*◌, ◌<◌, ◌≤◌, Bool, true, false, cond, leb, List, length, Ok, Err, refl, ap, ◌∙◌, subst, inl, inr, arith}
+use Rattle.std.proofs.lemmas.Bool.{cases_Bool, cases_lt, lt-leb}
 use Rattle.std.proofs.lemmas.Bool.Decides.{nat_tests}
 use Rattle.rights.specs.declared.kinds.Kind.{Kind}
 use Rattle.rights.specs.declared.kinds.Kind.TheVariants.{Pool, Table, Port, Page, Thread, Line}
 use Rattle.rights.specs.declared.refusals.Refusal.{Refusal}
-use Rattle.rights.specs.declared.refusals.Refusal.TheVariants.{Length, Value, Name, Frames}
+use Rattle.rights.specs.declared.refusals.Refusal.TheVariants.{Length, Value, Name}
 use Rattle.image.specs.declared.census.Census.{Census}
 use Rattle.image.specs.declared.census.Kinds.{Kinds}
 use Rattle.image.specs.declared.content.Entry.{Entry}
 use Rattle.image.specs.declared.content.Entry.TheVariants.{Slot, Mapping}
 use Rattle.image.specs.Fields.{one, two, Read, ◌then◌, past, judged, each}
 use Rattle.image.specs.Format.{head_at, is_a, size_at, names, slot, mapping, entry, entries, state, content, part, section, body, magic, count, headers}
-use Rattle.image.specs.Layout.{frames_for}
 use Rattle.image.specs.Prefix.{SameBelow, field_end, content_length, content_lengths, LengthByHeaders, OneLength}
-use Rattle.image.specs.Verdict.{verdict}
 use Rattle.image.proofs.Decided.{Reading, reading, finish, verdict_is, reading_told}
 use Rattle.image.proofs.Told.{Told}
 

@@ -1,12 +1,12 @@
 -- Slots that are written come back.
-use Rattle.std.proofs.Common.{◌≡◌, ℕ, zero, suc, ◌+◌, ◌-◌, ◌*◌, ◌<◌, ◌≤◌, Bool, true, false, cond, eqb, List, [], ◌∷◌, ◌++◌, length, get_or, Ok, Err, sym, refl, ap, ◌∙◌, subst, arith, length-append}
+use Rattle.std.proofs.Common.{◌≡◌, ℕ, suc, ◌+◌, ◌-◌, ◌*◌, ◌<◌, ◌≤◌, Bool, true, false, List, [], ◌∷◌, ◌++◌, length, Ok, refl, subst, arith}
 use lib.Dec.{eqb-suc-zero}
 use Rattle.std.proofs.lemmas.Bool.Decides.{nat_tests}
 use Rattle.rights.specs.Vocabulary.{rights_of_bits}
 use Rattle.rights.specs.World.{Slot, Rights, empty, cap}
 use Rattle.image.specs.declared.content.Entry.TheVariants as entry_of
-use Rattle.image.specs.Fields.{one, two, Read, each}
-use Rattle.image.specs.Format.{slot, entry, entries}
+use Rattle.image.specs.Fields.{one, two}
+use Rattle.image.specs.Format.{slot, entries}
 use Rattle.image.specs.Meaning.{four, two_bytes, four_bytes, all, bit, rights_bits, slot_bytes, slots_from}
 use Rattle.image.proofs.Stands.{At, Alls, at_len, at_split, at_two, at_four, each_all}
 

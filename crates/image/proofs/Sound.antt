@@ -1,10 +1,10 @@
 -- An image that is taken means objects that an image can carry.
-use Rattle.std.proofs.Common.{◌≡◌, ℕ, zero, suc, ◌+◌, ◌-◌, ◌*◌, ◌/◌, ◌%◌, ◌<◌, ◌≤◌, Bool, true, false, cond, ◌&&◌, eqb, ltb, leb, ◌⊎◌, List, [], ◌∷◌, length, get_or, Some, None, Ok, Err, Option, sym, refl, ap, ◌∙◌, subst, inl, inr, arith}
+use Rattle.std.proofs.Common.{◌≡◌, ℕ, zero, suc, ◌+◌, ◌*◌, ◌/◌, ◌<◌, ◌≤◌, true, ◌&&◌, ltb, leb, List, [], ◌∷◌, length, get_or, Some, Ok, sym, refl, ap, ◌∙◌, subst, inl, inr, arith}
 use Rattle.std.proofs.lemmas.Bool.{eq-eqb, ne_eqb, leb-true, ltb-true, eqb-true, cases_eq, and_parts}
 use Rattle.rights.specs.declared.kinds.Kind.{Kind}
 use Rattle.rights.specs.declared.kinds.Kind.TheVariants.{Pool, Table, Port, Page, Thread, Line}
 use Rattle.rights.specs.Vocabulary.{kind_number}
-use Rattle.rights.specs.World.{Object, gone, slots_of}
+use Rattle.rights.specs.World.{Object, slots_of}
 use Rattle.rights.specs.Promise.{threads, lines}
 use Rattle.rv32.specs.declared.registers.Cpu.{Cpu}
 use Rattle.rv32.specs.Registers.{fresh}
@@ -12,15 +12,15 @@ use Rattle.rv32.specs.Execute.{act}
 use Rattle.image.specs.declared.census.Census.{Census}
 use Rattle.image.specs.declared.census.Kinds.{Kinds}
 use Rattle.image.specs.declared.content.Entry.TheVariants.{Slot}
-use Rattle.image.specs.Fields.{one, two, Read, each}
+use Rattle.image.specs.Fields.{one, two, each}
 use Rattle.image.specs.Format.{head_at, size_at, counted, right_size, header, entries, state, part}
-use Rattle.image.specs.Meaning.{two_bytes, births_of, Places, state_of, read_as, after, object_at, objects_from, stop, ready_mark, slots_from}
+use Rattle.image.specs.Meaning.{two_bytes, Places, state_of, read_as, after, object_at, objects_from, stop, ready_mark, slots_from}
 use Rattle.image.proofs.Sized.{then_back}
 use Rattle.image.proofs.Stands.{At, Alls}
 use Rattle.image.proofs.Slots.{Orderly}
 use Rattle.image.proofs.Births.{Orders}
 use Rattle.image.proofs.Objects.{Placed}
-use Rattle.image.proofs.Back.{HeadRead, head_back, thread_count, line_count, two_low, four_low, slots_read, bytes_long, bytes_low, state_read}
+use Rattle.image.proofs.Back.{head_back, thread_count, line_count, two_low, four_low, slots_read, bytes_long, bytes_low, state_read}
 
 -- a census after an object
 record Tally (c d : Census) (x : Object Cpu) : Type 0 where

@@ -1,10 +1,10 @@
 -- Spaces, pages' bytes and threads that are written come back.
-use Rattle.std.proofs.Common.{◌≡◌, ℕ, zero, suc, ◌+◌, ◌-◌, ◌*◌, ◌<◌, ◌≤◌, Bool, true, false, cond, eqb, List, [], ◌∷◌, ◌++◌, length, get_or, Ok, Err, sym, refl, ap, ◌∙◌, subst, arith, length-append}
+use Rattle.std.proofs.Common.{◌≡◌, ℕ, zero, suc, ◌+◌, ◌*◌, ◌<◌, ◌≤◌, Bool, true, false, eqb, List, [], ◌∷◌, ◌++◌, length, Ok, refl, ap, ◌∙◌, subst, arith, length-append}
 use Rattle.std.proofs.lemmas.Bool.{le-leb}
 use Rattle.rights.specs.declared.kinds.Kind.TheVariants.{Table, Page}
 use Rattle.image.specs.declared.content.Entry.TheVariants.{Mapping}
-use Rattle.image.specs.Fields.{one, two, Read, past, each}
-use Rattle.image.specs.Format.{mapping, entry, entries, state, names}
+use Rattle.image.specs.Fields.{one, two, each}
+use Rattle.image.specs.Format.{mapping, entries, state, names}
 use Rattle.image.specs.Meaning.{four, two_bytes, four_bytes, all, pairs, bit, mapping_bytes, pages_from, marks_from, bytes_from}
 use Rattle.image.proofs.Stands.{At, Alls, at_len, at_split, at_two, at_four, each_all, past_fine}
 use Rattle.image.proofs.Slots.{bit_low}

@@ -1,7 +1,7 @@
 -- Bytes that stand at a place.
-use Rattle.std.proofs.Common.{◌≡◌, ℕ, zero, suc, ◌+◌, ◌-◌, ◌*◌, ◌/◌, ◌%◌, ◌<◌, ◌≤◌, List, [], ◌∷◌, ◌++◌, length, get_or, Ok, Err, sym, refl, ap, ◌∙◌, subst, add-zero, add_assoc, add-one, arith, length-append}
+use Rattle.std.proofs.Common.{◌≡◌, ℕ, zero, suc, ◌+◌, ◌/◌, ◌%◌, ◌<◌, ◌≤◌, List, [], ◌∷◌, ◌++◌, length, get_or, Ok, refl, ap, ◌∙◌, subst, add-zero, add_assoc, add-one, arith, length-append}
 use Rattle.std.proofs.lemmas.Bool.{le-leb}
-use Rattle.image.specs.Fields.{one, two, Read, past, ◌then◌, each}
+use Rattle.image.specs.Fields.{two, Read, past, each}
 use Rattle.image.specs.Meaning.{four, two_bytes, four_bytes, all}
 
 -- xs stand at a in bs

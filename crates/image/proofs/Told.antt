@@ -1,9 +1,9 @@
 -- Readers that look at no byte beyond the field at hand: what a reader says of bs it says of every cs with the same bytes so far.
-use Rattle.std.proofs.Common.{◌≡◌, ℕ, zero, suc, ◌+◌, ◌-◌, ◌*◌, ◌<◌, ◌≤◌, Bool, true, false, cond, leb, ◌⊎◌, List, length, get_or, Some, None, Ok, Err, Option, sym, refl, ap, ◌∙◌, subst, inl, inr, arith}
-use Rattle.std.proofs.lemmas.Bool.{cases_lt, cases_Bool, le-leb, lt-leb}
+use Rattle.std.proofs.Common.{◌≡◌, ℕ, zero, suc, ◌+◌, ◌<◌, ◌≤◌, Bool, true, false, List, length, Some, None, Ok, Err, Option, refl, ap, ◌∙◌, subst, inl, inr, arith}
+use Rattle.std.proofs.lemmas.Bool.{cases_lt, le-leb, lt-leb}
 use Rattle.rights.specs.declared.refusals.Refusal.{Refusal}
 use Rattle.rights.specs.declared.refusals.Refusal.TheVariants.{Length, Magic, Value, Name, Frames, Event}
-use Rattle.image.specs.Fields.{one, two, Read, ◌then◌, past, judged, given, each}
+use Rattle.image.specs.Fields.{Read, ◌then◌, past, judged, given, each}
 use Rattle.image.specs.Prefix.{SameBelow}
 
 module _ (bs cs : List ℕ) (W : Refusal → ℕ) where

@@ -3,7 +3,7 @@ use Rattle.std.proofs.Common.{◌≡◌, ℕ, zero, suc, ◌+◌, ◌-◌, ◌<�
 use Rattle.std.proofs.lemmas.Bool.{lt-ltb, le-ltb}
 use Rattle.std.proofs.lemmas.Bool.Decides.{nat_tests}
 use Rattle.rights.specs.declared.refusals.Refusal.{Refusal}
-use Rattle.image.specs.Fields.{Read, ◌then◌, each}
+use Rattle.image.specs.Fields.{Read, each}
 use Rattle.image.specs.Layout.{begins, takes, filled}
 use Rattle.image.specs.Events.{event, events_from}
 

@@ -1,9 +1,9 @@
 -- The image of objects that it can carry is taken, and its objects come back.
-use Rattle.std.proofs.Common.{◌≡◌, ℕ, zero, suc, ◌+◌, ◌-◌, ◌*◌, ◌/◌, ◌%◌, ◌<◌, ◌≤◌, min, Bool, true, false, cond, not, ◌&&◌, ◌||◌, eqb, ltb, leb, List, [], ◌∷◌, ◌++◌, length, get_or, Some, None, Ok, Err, Option, sym, refl, ap, ◌∙◌, subst, arith, length-append}
+use Rattle.std.proofs.Common.{◌≡◌, ℕ, suc, ◌+◌, ◌*◌, ◌/◌, ◌<◌, ◌≤◌, true, false, not, ◌&&◌, eqb, ltb, leb, List, [], ◌∷◌, ◌++◌, length, Some, Ok, sym, refl, ap, ◌∙◌, subst, arith, length-append}
 use Rattle.std.proofs.lemmas.Bool.{lt-ltb, le-leb, eq-eqb, and_from, and_right, not_from_true}
 use Rattle.rights.specs.declared.kinds.Kind.{Kind}
 use Rattle.rights.specs.declared.kinds.Kind.TheVariants.{Pool, Table, Port, Page, Thread, Line}
-use Rattle.rights.specs.Vocabulary.{kind_number, kind_from}
+use Rattle.rights.specs.Vocabulary.{kind_from}
 use Rattle.rights.specs.World.{Object, gone, pool, table, port, page, thread, line, slots_of}
 use Rattle.rights.specs.Promise.{threads, lines}
 use Rattle.rv32.specs.declared.registers.Cpu.{Cpu}
@@ -11,14 +11,14 @@ use Rattle.rv32.specs.Registers.{fresh}
 use Rattle.rv32.specs.Execute.{act}
 use Rattle.image.specs.declared.census.Census.{Census}
 use Rattle.image.specs.declared.census.Kinds.{Kinds}
-use Rattle.image.specs.Fields.{one, two, Read, past, judged, given, ◌then◌, each}
-use Rattle.image.specs.Format.{lets_in, head_at, counted, right_size, differs, magic, count, header, headers, part, section, body}
-use Rattle.image.specs.Layout.{filled, frames_for}
-use Rattle.image.specs.Meaning.{two_bytes, all, births_of, Places, object_at, after, objects_from, stop, objects_of, kind_of, size_of, header_bytes, part_bytes, encode, filled_by, frames}
+use Rattle.image.specs.Fields.{one, two, each}
+use Rattle.image.specs.Format.{lets_in, head_at, counted, right_size, differs, magic, count, header, part, section, body}
+use Rattle.image.specs.Layout.{frames_for}
+use Rattle.image.specs.Meaning.{two_bytes, all, births_of, Places, object_at, after, objects_from, stop, objects_of, header_bytes, part_bytes, encode, frames}
 use Rattle.image.specs.Verdict.{verdict}
 use Rattle.image.proofs.Stands.{At, Alls, at_len, at_split, at_two, each_all, past_fine}
 use Rattle.image.proofs.Births.{Orders}
-use Rattle.image.proofs.Objects.{LetIn, HeadAt, Good, Placed, its_header, fills, part_step, build_step}
+use Rattle.image.proofs.Objects.{LetIn, HeadAt, Placed, its_header, fills, part_step, build_step}
 
 same : (bs : List ℕ) (a c : ℕ) → one bs a ≡ c → differs bs a c ≡ false
 same bs a c e = and_right (ltb a (length bs)) (not (eqb (one bs a) c)) (not_from_true (eqb (one bs a) c) (eq-eqb (one bs a) c e))

@@ -1,5 +1,5 @@
 -- Fields of bytes: what stands at a place, and how a reader goes on or refuses. Assumes nothing: these are definitions.
-use Rattle.std.specs.Prelude.{ℕ, zero, suc, ◌+◌, ◌*◌, Bool, true, false, cond, List, length, Some, None, Ok, Err, Option, Result, nat_le, slice_index}
+use Rattle.std.specs.Prelude.{ℕ, zero, suc, ◌+◌, ◌*◌, Bool, cond, List, length, Some, None, Ok, Err, Option, Result, nat_le, slice_index}
 use Rattle.rights.specs.declared.refusals.Refusal.{Refusal}
 use Rattle.rights.specs.declared.refusals.Refusal.TheVariants.{Length}
 

@@ -1,5 +1,5 @@
 -- The format of an image in the order of its bytes. Assumes nothing: these are definitions.
-use Rattle.std.specs.Prelude.{ℕ, zero, suc, ◌+◌, ◌-◌, ◌*◌, Bool, true, false, cond, not, ◌&&◌, ◌||◌, List, [], ◌∷◌, length, Some, None, Ok, Err, Option, ◌==◌, nat_le, nat_lt}
+use Rattle.std.specs.Prelude.{ℕ, ◌+◌, ◌-◌, ◌*◌, Bool, true, cond, not, ◌&&◌, ◌||◌, List, length, Some, None, Ok, Option, ◌==◌, nat_le, nat_lt}
 use Rattle.rights.specs.declared.kinds.Kind.{Kind}
 use Rattle.rights.specs.declared.kinds.Kind.TheVariants.{Pool, Table, Port, Page, Thread, Line}
 use Rattle.rights.specs.declared.refusals.Refusal.TheVariants.{Magic, Value, Name}

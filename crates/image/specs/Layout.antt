@@ -1,6 +1,6 @@
 -- Where the objects of an image lie in the lent frames. Places are counted in units of 64 bytes, 64 to a frame of 4,096.
 -- Assumes nothing: these are definitions.
-use Rattle.std.specs.Prelude.{ℕ, zero, suc, ◌+◌, ◌*◌, ◌/◌, Bool, true, false, cond, ◌||◌, List}
+use Rattle.std.specs.Prelude.{ℕ, zero, suc, ◌+◌, ◌*◌, ◌/◌, cond, ◌||◌, List}
 use Rattle.rights.specs.declared.kinds.Kind.TheVariants.{Pool, Table, Port, Page}
 use Rattle.image.specs.Format.{is_a, size_at}
 

@@ -1,5 +1,5 @@
 -- Files of which only the first bytes were read: `more` says whether they go on beyond these. Assumes nothing: these are definitions.
-use Rattle.std.specs.Prelude.{ℕ, ◌+◌, Bool, true, false, cond, not, ◌&&◌, ◌||◌, List, length, Ok, Err, ◌==◌, nat_le}
+use Rattle.std.specs.Prelude.{ℕ, ◌+◌, Bool, cond, not, ◌&&◌, ◌||◌, List, length, Ok, Err, ◌==◌, nat_le}
 use Rattle.rights.specs.declared.refusals.Refusal.TheVariants.{Length, Event}
 use Rattle.rights.specs.Vocabulary.{refusal_number, refusal_place}
 use Rattle.image.specs.declared.census.Census.{Census}

@@ -1,5 +1,5 @@
 -- What of an image decides about it. Assumes nothing: these are definitions and statements.
-use Rattle.std.specs.Prelude.{◌≡◌, ℕ, zero, suc, ◌+◌, ◌*◌, ◌%◌, ◌<◌, ◌≤◌, Bool, cond, ◌&&◌, ◌⊎◌, List, length, take, Ok, Err, ◌==◌, nat_lt, slice_index}
+use Rattle.std.specs.Prelude.{◌≡◌, ℕ, zero, suc, ◌+◌, ◌*◌, ◌%◌, ◌<◌, ◌≤◌, cond, ◌&&◌, ◌⊎◌, List, length, take, Ok, Err, ◌==◌, nat_lt, slice_index}
 use Rattle.rights.specs.declared.kinds.Kind.TheVariants.{Table, Page, Thread}
 use Rattle.rights.specs.declared.refusals.Refusal.{Refusal}
 use Rattle.rights.specs.declared.refusals.Refusal.TheVariants.{Length, Magic, Value, Name, Frames, Event}

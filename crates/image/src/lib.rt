@@ -1,4 +1,6 @@
 // Images and rows of events: whether they are taken, and if not, why and where.
+#![tactic(auto)]
+
 mod census;
 mod content;
 mod fields;

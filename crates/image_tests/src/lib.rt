@@ -1,5 +1,7 @@
 // Tests of the check of images and of rows of events. What is expected is worked out by hand from
 // the format; no test asks the code under test where something lies.
+#![tactic(auto)]
+
 #[cfg(test)]
 mod builder;
 #[cfg(test)]

@@ -10,7 +10,7 @@ use Rattle.rights.specs.World.{no, Act, Wait, sender, receiver, State, stopped, 
 use Rattle.rights.specs.World.{World, among, object, with_object, from_of, waits_thread, cleared, set_state, then_of, resumed, handed, went_on, run}
 use Rattle.rights.specs.Promise.{Kinds, Uncut, Note, message, got_by, met_at, row_of, Back, waits_on, was_heard, was_told, was_ended, ComesBack}
 use Rattle.laws.proofs.Tests.{yes_no, no_yes, clash, same_or_not}
-use Rattle.laws.proofs.Steps.{is_sender, came, met, told, Sight, other, seen_as, waiting_at, AllCut, AllGone, one, waits_at, view, waiting_of}
+use Rattle.laws.proofs.Steps.{is_sender, came, met, told, Sight, seen_as, waiting_at, AllCut, AllGone, one, waits_at, view, waiting_of}
 use Rattle.laws.proofs.Steps.{waiting, goes, sweeps, rests, joins, Outcome, nothing, heard, stops, calls}
 use Rattle.laws.proofs.Sweeping.{AfterSweep, lost, untouched, slots_go, waits_go, goes_calm, goes_waiting, goes_woken, swept_at}
 use Rattle.laws.proofs.Moves.{alike_set, hands_over}

@@ -10,10 +10,8 @@ use borrow.Author.Tests.{ltb-true, ltb-false}
 use lib.ListN.{length, get_or, get_or-eq_default}
 use Rattle.rights.specs.World.{pick, Rights, Slot, empty, cap, Act, Wait, State, stopped, ready, waits, Object, gone, pool, table, port, page, thread}
 use Rattle.rights.specs.World.{line, World, object, slots_of, from_of}
-use Rattle.rights.specs.Promise.{Parted, mine}
+use Rattle.rights.specs.Promise.{Parted}
 use Rattle.laws.proofs.Tests.{yes_no}
-use Rattle.laws.proofs.Steps.{other, awake, one}
-use Rattle.laws.proofs.Pools.{within}
 use Rattle.laws.proofs.Tied.{Ties, Ref, none, some, Each, nil, cons, SlotT, empty_t, cap_t, WaitT, From, lin_nil, up_nil, StateT, stopped_t, ready_t}
 use Rattle.laws.proofs.Tied.{ObjT, gone_t, pool_t, table_t, port_t, page_t, thread_t, line_t, Tied}
 use Rattle.laws.proofs.Frames.{Parts}

@@ -12,7 +12,7 @@ use Rattle.rights.specs.World.{pick, Rights, Slot, empty, cap, Kind, a_pool, a_t
 use Rattle.rights.specs.World.{page, thread, line, Sizes, World, Event, slot_object, slot_rights, slot_birth, slot_mother, is_empty, among, object}
 use Rattle.rights.specs.World.{with_object, slots_of, slot, made_from, offspring, cuttings, cleared, refilled, Went, on, refuse, made, is_pool}
 use Rattle.rights.specs.World.{revoking, does, run}
-use Rattle.rights.specs.Promise.{Parted, lines, Comes, Revoked, HeldIsThere, NoMore}
+use Rattle.rights.specs.Promise.{Parted, Comes, Revoked, HeldIsThere, NoMore}
 use Rattle.laws.proofs.Tests.{yes_no, no_yes, both_ways, clash, or_cases, less_one, among-++}
 use Rattle.laws.proofs.Steps.{NoWider, to, In, Turn, kept, spoken, stored, mapped, bound, ran, rowed, drawn, slotted, cut_new, Born, Change, one}
 use Rattle.laws.proofs.Sweeping.{AfterSweep, lost, untouched, slots_go, waits_go, goes_calm, goes_waiting, goes_woken, swept_at, emptied_at}

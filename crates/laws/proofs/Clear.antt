@@ -9,9 +9,7 @@ use Rattle.rights.specs.World.{pick, Slot, empty, Act, Wait, State, stopped, rea
 use Rattle.rights.specs.World.{slot_object, slot_birth, is_empty, among, object, emptied, waits_thread, without_threads, unmapped, woken, cleaned}
 use Rattle.rights.specs.World.{clean_all, cleared}
 use Rattle.laws.proofs.Tests.{pick_two, or_two, less_one}
-use Rattle.laws.proofs.Steps.{one}
 use Rattle.laws.proofs.Sweeping.{at_clean, len_clean}
-use Rattle.laws.proofs.Pools.{within}
 use Rattle.laws.proofs.Tied.{Ties, Ref, none, Each, nil, cons, SlotT, empty_t, cap_t, WaitT, sender_t, receiver_t, From, Agree, ref_in, StateT}
 use Rattle.laws.proofs.Tied.{stopped_t, ready_t, waits_t, ObjT, gone_t, pool_t, table_t, port_t, page_t, thread_t, line_t, Tied}
 

@@ -13,7 +13,7 @@ use Rattle.rights.specs.World.{pick, no, Rights, Slot, empty, cap, Kind, a_pool,
 use Rattle.rights.specs.World.{page, thread, line, Sizes, World, cost, step_of, up_to, slot_object, slot_rights, slot_birth, slot_mother, is_empty}
 use Rattle.rights.specs.World.{too_many, object, with_object, slots_of, table_of, slot, has_slot, with_slots, with_slot, Went, on, refuse, made}
 use Rattle.rights.specs.World.{all_rights, cutting, is_pool, does}
-use Rattle.rights.specs.Promise.{lines, Sized, filled, CutExactly, row_of}
+use Rattle.rights.specs.Promise.{Sized, filled, CutExactly, row_of}
 use Rattle.laws.proofs.Tests.{yes_no, below_or_not, and_left, and_right, less_one, set_here, set_apart, set_by, at_end, longer, push_by}
 use Rattle.laws.proofs.Steps.{In, Turn, kept, drawn, cut_new, Change, one, waits_at, view, waiting_of, SameFace, SameFaces}
 use Rattle.laws.proofs.Moves.{alike, turn_slots, alike_slots}

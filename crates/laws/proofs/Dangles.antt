@@ -10,7 +10,7 @@ use Rattle.rights.specs.World.{Act, Wait, stopped, ready, waits, Object, gone, p
 use Rattle.rights.specs.World.{object, event, run}
 use Rattle.rights.specs.Promise.{Parted, Comes, HeldIsThere, waiters, NoTwice, Kinds, Rows, NothingDangles, row_of}
 use Rattle.laws.proofs.Tests.{no_yes}
-use Rattle.laws.proofs.Steps.{awake, one, waits_at}
+use Rattle.laws.proofs.Steps.{one, waits_at}
 use Rattle.laws.proofs.Pass.{happens}
 use Rattle.laws.proofs.Caps.{held_is_there}
 use Rattle.laws.proofs.Places.{kinds_event, kinds_run}

@@ -13,7 +13,6 @@ use Rattle.rights.specs.World.{from_of}
 use Rattle.rights.specs.Promise.{Parted, mine, only}
 use Rattle.laws.specs.Examples.{all, no_write, two, ours, Parts}
 use Rattle.laws.proofs.Tests.{yes_no, both_ways, clash}
-use Rattle.laws.proofs.Steps.{awake}
 
 module _ (fresh : ℕ → Cpu) (act : Cpu → (ℕ → ℕ) → Act Cpu) (r : Rights) (n : ℕ) where
   abbrev obj : ℕ → Object Cpu

@@ -13,7 +13,6 @@ use Rattle.rights.specs.Promise.{Parted, New, new_pool, new_table, new_port, new
 use Rattle.rights.specs.Promise.{lines, Kinds, Uncut}
 use Rattle.laws.specs.Examples.{board, all, slots, small, Starts, Carried}
 use Rattle.laws.proofs.Tests.{clash}
-use Rattle.laws.proofs.Steps.{awake}
 
 -- a list of zeros
 zeros : (n k : ℕ) → ◌≡◌ {A = ℕ} (get_or (replicate n 0) k 0) 0

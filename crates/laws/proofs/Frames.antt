@@ -9,10 +9,6 @@ use borrow.Author.Tests.{ne_eqb}
 use lib.ListN.{length, get_or-append}
 use Rattle.rights.specs.World.{Slot, Act, Object, gone, Sizes, World, tick, byte, slot_birth, slot_mother, among, object, cuttings, cleared, event}
 use Rattle.laws.proofs.Tests.{not_true, longer}
-use Rattle.laws.proofs.CutFrom.{fr}
-use Rattle.laws.proofs.Steps.{one}
-use Rattle.laws.proofs.Moves.{alike}
-use Rattle.laws.proofs.Pools.{within}
 use Rattle.laws.proofs.Tied.{Ties, More, Lin, lin_nil, lin_both, lin_left, lin_right, up_cons, up_more, Agree, noted, pushed, Tied, left_set}
 use Rattle.laws.proofs.Tied.{right_set}
 use Rattle.laws.proofs.Clear.{t_clear, clear_none}

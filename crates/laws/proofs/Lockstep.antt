@@ -19,9 +19,7 @@ use Rattle.laws.proofs.Tests.{at_set}
 use Rattle.laws.proofs.Forms.{on_pool, on_port, on_thread, on_line, no_cut, no_copy, no_move, no_revoke, no_writing, no_reading, no_map, no_bind}
 use Rattle.laws.proofs.Forms.{cutting_is, sending_is, receiving_is, mapping_is, unmapping_is, binding_is, going_is, saying_is, hearing_is}
 use Rattle.laws.proofs.Forms.{comes_in_is, ticked_is}
-use Rattle.laws.proofs.Steps.{heard}
 use Rattle.laws.proofs.Cuts.{table_kept}
-use Rattle.laws.proofs.Pools.{within}
 use Rattle.laws.proofs.Tied.{Ties, More, more_refl, Ref, none, some, Each, nil, cons, SlotT, empty_t, cap_t, WaitT, sender_t, receiver_t, From}
 use Rattle.laws.proofs.Tied.{from_none, from_some, each_length, each_at, each_set, each_push, each_fill, Agree, StateT, stopped_t, ready_t, waits_t}
 use Rattle.laws.proofs.Tied.{ObjT, gone_t, pool_t, table_t, port_t, page_t, thread_t, line_t, noted, pushed, with_born, with_objs, more_born}

@@ -10,7 +10,7 @@ use lib.ListN.{length, get_or, set, length-set}
 use Rattle.rights.specs.World.{Rights, meet, Slot, empty, cap, Act, State, Object, gone, pool, table, port, page, thread, line, World, slot_object}
 use Rattle.rights.specs.World.{slot_rights, slot_birth, slot_mother, is_empty, copied, among, object, with_object, slots_of, from_of, table_of, slot}
 use Rattle.rights.specs.World.{with_slots, with_slot, cuttings, cleared, refilled, set_state, handed}
-use Rattle.rights.specs.Promise.{lines, row_of}
+use Rattle.rights.specs.Promise.{row_of}
 use Rattle.laws.proofs.Tests.{yes_no, no_yes, both_ways, pick_both, pick_know, and_left, less_one, set_by}
 use Rattle.laws.proofs.CutFrom.{fr, dual, sat}
 use Rattle.laws.proofs.Steps.{NoWider, In, Turn, kept, ran, drawn, slotted, Change, Closed, AllCut, AllGone, small, Steps, none, after, one}

@@ -13,7 +13,7 @@ use Rattle.rights.specs.World.{among, object, with_object, from_of, waits_thread
 use Rattle.rights.specs.Promise.{waiters, Kinds, Uncut, Note, sends, receives, meets, Sent, message, Meeting, got_by, sent_at, asked_at, met_at}
 use Rattle.rights.specs.Promise.{paired, row_of, event_noted, log, FirstCome}
 use Rattle.laws.proofs.Tests.{yes_no, no_yes, clash, either_way, same_or_not, not_true, set_by, inside}
-use Rattle.laws.proofs.Steps.{is_sender, came, met, other, Turn, kept, spoken, stored, mapped, bound, ran, rowed, drawn, slotted, cut_new, AllCut}
+use Rattle.laws.proofs.Steps.{is_sender, came, met, Turn, kept, spoken, stored, mapped, bound, ran, rowed, drawn, slotted, cut_new, AllCut}
 use Rattle.laws.proofs.Steps.{AllGone, one, waits_at, view, waiting_of, goes, sweeps, rests, joins, Outcome, nothing, heard, stops, calls}
 use Rattle.laws.proofs.Sweeping.{AfterSweep, lost, untouched, slots_go, waits_go, goes_calm, goes_waiting, goes_woken, len_clean, swept_at}
 use Rattle.laws.proofs.Moves.{alike_set}

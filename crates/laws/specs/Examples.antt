@@ -1,6 +1,6 @@
 -- Small worlds that meet what the laws ask for, so that none of the laws is empty. Assumes nothing: these are definitions and statements.
-use Rattle.std.specs.Prelude.{◌≡◌, Bool, true, false, not, ◌||◌, List, [], ◌∷◌, ◌≢◌, ℕ, zero, suc, ◌+◌, ◌*◌, ◌≤◌, ◌<◌, eqb, ltb, length, get_or, replicate}
-use Rattle.rights.specs.World.{Act, World, Sizes, Event, Object, Slot, Rights, Call, empty, cap, pool, line, port, page, table, thread, ready, stopped, waits, call, tick, copy, revoke, send, receive, say, hear, cut, a_pool, on, no, object, run, does, slot, has_slot, slots_of, offspring, among}
+use Rattle.std.specs.Prelude.{◌≡◌, Bool, true, false, List, [], ◌∷◌, ◌≢◌, ℕ, suc, ◌≤◌, ◌<◌, ltb, get_or, replicate}
+use Rattle.rights.specs.World.{Act, World, Sizes, Object, Slot, Rights, Call, empty, cap, pool, line, port, page, table, thread, ready, waits, call, tick, copy, revoke, send, receive, hear, a_pool, on, object, run, does, slot, has_slot, slots_of, offspring, among}
 use Rattle.rights.specs.Promise.{Parted, New, Fits, Kinds, Uncut, Comes, Sized, filled, only, log, met_at, got_by, message}
 use Rattle.rv32.specs.declared.registers.Cpu.{Cpu}
 use Rattle.rv32.specs.Registers.{fresh}

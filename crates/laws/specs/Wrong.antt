@@ -1,7 +1,7 @@
 -- Definitions of the world with a fault in each, and the law that the fault breaks: the law holds of the world's own definition and not of the faulty one.
 -- Assumes nothing: these are definitions and statements.
-use Rattle.std.specs.Prelude.{◌≡◌, Bool, true, false, List, [], ◌∷◌, ℕ, zero, suc, ◌+◌, eqb, get_or}
-use Rattle.rights.specs.World.{Act, World, Object, Slot, Rights, Wait, Went, empty, cap, gone, table, port, page, pool, thread, line, sender, receiver, on, wait, pick, among, copied, slot_rights, slot_birth, slots_of, is_empty, cleaned, clean_all, receiving, handed}
+use Rattle.std.specs.Prelude.{◌≡◌, Bool, true, false, List, [], ◌∷◌, ℕ, suc, eqb, get_or}
+use Rattle.rights.specs.World.{Act, World, Object, Slot, Rights, Wait, Went, empty, cap, gone, table, port, page, pool, thread, line, sender, on, wait, pick, among, copied, slot_rights, slot_birth, slots_of, is_empty, cleaned, clean_all, receiving, handed}
 use Rattle.rv32.specs.declared.registers.Cpu.{Cpu}
 
 -- COPY. What is made from a capability has no right that it lacks

@@ -1,4 +1,6 @@
 // The laws of the abstract world: each function's contract names one.
+#![tactic(auto)]
+
 ghost use Rattle.laws.specs.Laws.{Within, CutExactly, NoMore, Revoked, RevokedAnyFails, HeldIsThere, NothingDangles, Unreached, FirstCome, ComesBack, AtOnce, ImageStarts};
 ghost use Rattle.laws.specs.Examples.{Starts, Carried, Cuts, Makes, Meets, Parts};
 ghost use Rattle.laws.specs.Wrong.{CopyTested, RevokeTested, PortTested, HandOnTested};

@@ -1,5 +1,5 @@
 -- Reading and writing the world in the code's parts is reading and writing the abstract world.
-use Rattle.std.proofs.Common.{◌≡◌, ℕ, zero, suc, ◌+◌, ◌-◌, ◌<◌, ◌≤◌, Bool, true, false, cond, not, ◌&&◌, ◌||◌, eqb, ltb, ◌⊎◌, List, [], ◌∷◌, ◌++◌, map, reverse, length, get_or, set, Some, None, Option, sym, refl, ap, ◌∙◌, inl, inr, arith, ltb-false, le-ltb, lt-ltb, ne_eqb}
+use Rattle.std.proofs.Common.{◌≡◌, ℕ, zero, suc, ◌-◌, Bool, true, false, cond, ◌&&◌, eqb, ltb, List, [], ◌∷◌, map, reverse, length, get_or, set, Some, None, Option, sym, refl, ap, ◌∙◌, arith, ltb-false, le-ltb, ne_eqb}
 use Rattle.std.proofs.lemmas.List.{map-set, length-map, set_past, get_or_past, set-get_or}
 use Rattle.rights.specs.World as w
 use Rattle.rv32.specs.declared.registers.Cpu.{Cpu}

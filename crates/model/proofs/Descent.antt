@@ -1,7 +1,7 @@
 -- Who comes from whom, by a list of all that was made: the abstract world's words for it, and any test that goes up by mothers.
-use Rattle.std.proofs.Common.{◌≡◌, ℕ, zero, suc, ◌+◌, ◌-◌, ◌<◌, ◌≤◌, Bool, true, false, cond, ◌||◌, eqb, ◌⊎◌, List, [], ◌∷◌, ◌++◌, Some, None, Option, sym, refl, ap, ◌∙◌, subst, inl, inr, arith}
+use Rattle.std.proofs.Common.{◌≡◌, ℕ, zero, suc, ◌+◌, ◌<◌, ◌≤◌, Bool, true, false, ◌||◌, eqb, ◌⊎◌, List, [], ◌∷◌, ◌++◌, Some, None, Option, sym, refl, ap, ◌∙◌, subst, inl, inr, arith}
 use Rattle.std.proofs.lemmas.Bool.{cases_Bool, or_cases, or_left, or_right, eqb-true, eq-eqb, both_ways}
-use Rattle.rights.specs.World.{Slot, empty, cap, Rights, World, Act, pick, among, made_from, offspring, is_empty, slot_mother, slot_birth}
+use Rattle.rights.specs.World.{Slot, empty, cap, World, Act, among, made_from, offspring, is_empty, slot_mother, slot_birth}
 
 -- c was made from m
 unfoldable pub Made : List Slot → ℕ → ℕ → Type 0

@@ -1,5 +1,5 @@
 -- One event: the world in the code's parts does what the abstract world does.
-use Rattle.std.proofs.Common.{◌≡◌, ℕ, zero, suc, ◌+◌, ◌-◌, ◌/◌, ◌%◌, ◌≤◌, Bool, true, false, cond, not, ◌&&◌, eqb, ltb, leb, List, [], ◌∷◌, ◌++◌, map, length, get_or, Some, None, Option, sym, refl, ap, ◌∙◌, subst, arith}
+use Rattle.std.proofs.Common.{◌≡◌, ℕ, ◌+◌, ◌/◌, ◌%◌, Bool, true, false, cond, ltb, leb, List, [], ◌∷◌, ◌++◌, map, length, get_or, Some, None, Option, refl, ap, ◌∙◌, arith}
 use mathlib.Core.Path.{fun_ext}
 use Rattle.std.proofs.lemmas.Bool.{leb-true}
 use Rattle.rights.specs.declared.calls.Call.{Call}
@@ -20,7 +20,7 @@ use Rattle.model.specs.Same.{CallsAgree, EventsAgree}
 use Rattle.model.specs.Sound.{Sound}
 use Rattle.model.specs.Turns as turns
 use Rattle.model.specs.Meaning.{sizes, number_of, state_of, core_of, object_of, world_of, went_of}
-use Rattle.model.proofs.Agree.{object, with_object, read_any, at_world, put_world}
+use Rattle.model.proofs.Agree.{with_object, read_any, at_world, put_world}
 use Rattle.model.proofs.Same.{does, unchanged, say_same, hear_same, go_same, unmap_same, bind_same, map_same}
 use Rattle.model.proofs.Slots.{drop_same, move_same, copy_same}
 use Rattle.model.proofs.Ports.{send_same, receive_same}

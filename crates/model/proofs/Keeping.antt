@@ -1,13 +1,13 @@
 -- A sound world stays sound: one object in the place of another.
-use Rattle.std.proofs.Common.{◌≡◌, ℕ, zero, suc, ◌+◌, ◌-◌, ◌<◌, ◌≤◌, Bool, true, false, cond, not, ◌&&◌, eqb, ltb, leb, ◌⊎◌, List, [], ◌∷◌, ◌++◌, map, length, get_or, set, Some, None, Option, sym, refl, ap, ◌∙◌, subst, inl, inr, arith}
+use Rattle.std.proofs.Common.{◌≡◌, ℕ, ◌<◌, ◌≤◌, true, List, length, get_or, Some, None, Option, sym, refl, ap, ◌∙◌, inl, inr, arith}
 use Rattle.model.specs.declared.objects.Capability.{Capability}
 use Rattle.model.specs.declared.objects.Slot.{Slot}
-use Rattle.model.specs.declared.objects.Slot.TheVariants.{Empty, Full}
+use Rattle.model.specs.declared.objects.Slot.TheVariants.{Full}
 use Rattle.model.specs.declared.objects.Thread.{Thread}
 use Rattle.model.specs.declared.objects.Wait.{Wait}
 use Rattle.model.specs.Plain as p
 use Rattle.model.specs.Calls as calls
-use Rattle.model.specs.Sound.{Dense, Sound}
+use Rattle.model.specs.Sound.{Sound}
 use Rattle.model.proofs.Slots.{after_put}
 
 -- y may stand in the place of x

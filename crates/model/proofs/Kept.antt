@@ -1,23 +1,17 @@
 -- A sound world stays sound: what calls do to one object.
-use Rattle.std.proofs.Common.{◌≡◌, ℕ, zero, suc, ◌+◌, ◌-◌, ◌<◌, ◌≤◌, Bool, true, false, cond, not, ◌&&◌, eqb, ltb, leb, ◌⊎◌, List, [], ◌∷◌, ◌++◌, map, length, get_or, set, Some, None, Option, sym, refl, ap, ◌∙◌, subst, inl, inr, arith, get_or-set_other, get_or-set_same}
-use Rattle.std.proofs.lemmas.List.{set_past, length-set}
-use Rattle.std.proofs.lemmas.Bool.{cases_lt, cases_eq, cases_Bool, ltb-true}
+use Rattle.std.proofs.Common.{◌≡◌, ℕ, Bool, true, false, cond, ◌&&◌, ltb, ◌⊎◌, List, [], ◌∷◌, ◌++◌, length, get_or, set, Some, None, Option, sym, refl, ap, ◌∙◌, subst, inl, inr, arith, get_or-set_other, get_or-set_same}
+use Rattle.std.proofs.lemmas.List.{set_past}
+use Rattle.std.proofs.lemmas.Bool.{cases_lt, cases_eq}
 use Rattle.rights.specs.declared.answers.Answer.{Answer}
 use Rattle.rights.specs.declared.answers.Answer.TheVariants.{No, Done}
 use Rattle.rv32.specs.declared.registers.Cpu.{Cpu}
-use Rattle.model.specs.declared.objects.Capability.{Capability}
-use Rattle.model.specs.declared.objects.Slot.{Slot}
-use Rattle.model.specs.declared.objects.Slot.TheVariants.{Empty, Full}
 use Rattle.model.specs.declared.objects.State.{State}
 use Rattle.model.specs.declared.objects.Thread.{Thread}
-use Rattle.model.specs.declared.objects.Wait.{Wait}
 use Rattle.model.specs.Plain as p
 use Rattle.model.specs.Calls as calls
-use Rattle.model.specs.Cuts as cuts
-use Rattle.model.specs.Sweeps as sweeps
 use Rattle.model.specs.Turns as turns
 use Rattle.model.specs.Sound.{Sound}
-use Rattle.model.proofs.Keeping.{Fit, put_sound, by_pool, by_table, by_port, by_page, by_thread, by_line, same_fit, line_fit, port_fit, pool_fit, page_fit, table_fit, thread_fit}
+use Rattle.model.proofs.Keeping.{Fit, by_thread, by_line, same_fit, line_fit, thread_fit}
 
 by_cond : {A : Type 0} (P : A → Type 0) (b : Bool) (x y : A) → P x → P y → P (cond b x y)
 by_cond P true x y h k = h

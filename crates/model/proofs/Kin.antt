@@ -1,5 +1,5 @@
 -- The marks of the lineage are the abstract world's offspring, and the marks of the objects are what was cut.
-use Rattle.std.proofs.Common.{◌≡◌, ℕ, zero, suc, ◌+◌, ◌-◌, ◌<◌, ◌≤◌, Bool, true, false, cond, not, ◌&&◌, ◌||◌, eqb, ltb, ◌⊎◌, List, [], ◌∷◌, ◌++◌, map, reverse, length, get_or, take, Some, None, Option, sym, refl, ap, ◌∙◌, subst, inl, inr, arith}
+use Rattle.std.proofs.Common.{◌≡◌, ℕ, zero, suc, ◌+◌, ◌-◌, ◌<◌, ◌≤◌, Bool, false, cond, not, ◌&&◌, ◌||◌, eqb, ltb, ◌⊎◌, List, [], ◌∷◌, ◌++◌, map, reverse, length, get_or, take, Some, None, Option, sym, refl, ap, ◌∙◌, subst, inl, inr, arith}
 use Rattle.std.proofs.lemmas.List.{get_or_past, get_or-take, reverse-append, length-map}
 use Rattle.std.proofs.lemmas.Bool.{cases_lt, cases_eq, lt-ltb, le-ltb}
 use Rattle.rights.specs.World as w
@@ -9,11 +9,11 @@ use Rattle.rv32.specs.Execute.{act}
 use Rattle.model.specs.declared.objects.Slot.{Slot}
 use Rattle.model.specs.declared.objects.Slot.TheVariants.{Empty, Full}
 use Rattle.model.specs.Plain as p
-use Rattle.model.specs.Sweeps.{marked, mark_of, marks_from, base_of, marks, cut_mark, cut_marks_from, cut_marks}
+use Rattle.model.specs.Sweeps.{marked, mark_of, marks_from, base_of, marks, cut_mark, cut_marks_from}
 use Rattle.model.specs.Sound.{Dense, Sound}
 use Rattle.model.specs.Meaning.{slot_of, number_of, object_of, world_of}
 use Rattle.model.proofs.Agree.{less_one, not_zero}
-use Rattle.model.proofs.Descent.{Made, Orderly, up_by, test_is, same_truth}
+use Rattle.model.proofs.Descent.{Made, Orderly, up_by, test_is}
 use Rattle.model.proofs.Scans.{scan, marks_scan, cuts_scan, scan_length, scan_at}
 
 -- LINEAGE

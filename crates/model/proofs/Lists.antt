@@ -1,9 +1,9 @@
 -- Reads and writes of a list under a map.
-use Rattle.std.proofs.Common.{◌≡◌, ℕ, zero, suc, ◌+◌, ◌-◌, ◌<◌, ◌≤◌, List, [], ◌∷◌, ◌++◌, map, reverse, length, get_or, take, drop, set, IfNone, Some, None, Option, sym, refl, ap, ◌∙◌, add-one, arith, Bor}
-use Rattle.std.specs.Slice.{IsGetResult}
+use Rattle.std.proofs.Common.{◌≡◌, ℕ, zero, suc, ◌+◌, ◌<◌, ◌≤◌, List, [], ◌∷◌, ◌++◌, map, reverse, length, get_or, take, drop, set, IfNone, Some, None, Option, sym, refl, ap, ◌∙◌, add-one, arith}
+use Rattle.std.specs.List.{ItemBy}
 use Rattle.std.specs.Option.{option_map}
 use Rattle.model.specs.Sweeps.{at_each}
-use Rattle.std.proofs.lemmas.List.{get_or-map, get_or_past, length-map, map-set, get_or_read, set-get_or, map_push, reverse-append, set_past, take_all, drop_all, append-nil}
+use Rattle.std.proofs.lemmas.List.{get_or-map, get_or_past, length-map, map_push, reverse-append, set_past, take_all, drop_all, append-nil}
 
 pub read_map : {X Y : Type 0} (f : X → Y) (xs : List X) (i : ℕ) (x : X) (e : Y) → i < length xs → x ≡ get_or xs i x → f x ≡ get_or (map f xs) i e
 read_map f xs i x e h r = ap f r ∙ sym (get_or-map f xs i x e h)
@@ -19,17 +19,17 @@ abbrev pub shown_as : {X Y : Type 0} → (X → Y) → Y → Option X → Y
 shown_as f e None = e
 shown_as f e (Some x) = f x
 
-pub read_item : {X Y : Type 0} (f : X → Y) (e : Y) (xs : List X) (i : ℕ) (r : Option (Bor X)) → IsGetResult xs i i r → shown_as f e (option_map (λ x. x.now) r) ≡ get_or (map f xs) i e
-read_item f e xs i None h = past_map f xs i e h.3
-read_item f e xs i (Some x) h = read_map f xs i x.now e h.3.0 h.1
+pub read_item : {B X Y : Type 0} (now : B → X) (f : X → Y) (e : Y) (xs : List X) (i : ℕ) (r : Option B) → ItemBy now xs i i r → shown_as f e (option_map now r) ≡ get_or (map f xs) i e
+read_item now f e xs i None h = past_map f xs i e h.3
+read_item now f e xs i (Some x) h = read_map f xs i (now x) e h.3.0 h.1
 
 pub past_set : {X Y : Type 0} (f : X → Y) (xs : List X) (i : ℕ) (y : Y) → length xs ≤ i → set (map f xs) i y ≡ map f xs
 past_set f xs i y h = set_past (map f xs) i y (rw length-map h)
 
-pub past_item : {X Y Z : Type 0} (f : X → Y) (xs : List X) (i : ℕ) (r : Option (Bor X)) → IsGetResult xs i i r → (g : List Y → Z) →
+pub past_item : {B X Y Z : Type 0} (now : B → X) (f : X → Y) (xs : List X) (i : ℕ) (r : Option B) → ItemBy now xs i i r → (g : List Y → Z) →
     IfNone r ((y : Y) → g (map f xs) ≡ g (set (map f xs) i y))
-past_item f xs i None h g = λ y. ap g (sym (past_set f xs i y h.3))
-past_item f xs i (Some x) h g = tt
+past_item now f xs i None h g = λ y. ap g (sym (past_set f xs i y h.3))
+past_item now f xs i (Some x) h g = tt
 
 -- the end of a loop that writes f x over each x
 pub all_over : {X : Type 0} (f : X → X) (xs : List X) (i : ℕ) → length xs ≤ i → map f (take i xs) ++ drop i xs ≡ map f xs

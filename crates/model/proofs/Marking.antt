@@ -1,10 +1,10 @@
 -- One turn of the passes that mark, and of the passes that write over each element.
-use Rattle.std.proofs.Common.{◌≡◌, ℕ, zero, suc, ◌+◌, ◌<◌, ◌≤◌, Bool, List, [], ◌∷◌, ◌++◌, map, length, get_or, take, drop, set, sym, refl, ap, ◌∙◌, subst, append_assoc, add-one, arith, drop-cons}
+use Rattle.std.proofs.Common.{◌≡◌, ℕ, suc, ◌+◌, ◌<◌, ◌≤◌, Bool, List, [], ◌∷◌, ◌++◌, map, length, get_or, drop, sym, refl, ap, ◌∙◌, append_assoc, add-one, drop-cons}
 use Rattle.std.proofs.lemmas.List.{drop_all, append-nil}
 use Rattle.model.specs.declared.objects.Object.{Object}
 use Rattle.model.specs.declared.objects.Slot.{Slot}
 use Rattle.model.specs.declared.objects.Wait.{Wait}
-use Rattle.model.specs.Plain.{Thing, thing}
+use Rattle.model.specs.Plain.{thing}
 use Rattle.model.specs.Sweeps.{mark_of, marks_from, cut_mark, cut_marks_from, kept_wait, kept_waits}
 
 pub marks_step : (root base : ℕ) (ms ns new : List Bool) (xs : List Slot) (i : ℕ) (m : Bool) (d : Slot) → i < length xs → m ≡ mark_of root base ns (get_or xs i d) →

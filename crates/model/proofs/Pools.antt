@@ -1,8 +1,8 @@
 -- Cut: the world in the code's parts does what the abstract world does.
-use Rattle.std.proofs.Common.{◌≡◌, ℕ, zero, suc, ◌+◌, ◌-◌, ◌*◌, ◌%◌, ◌<◌, ◌≤◌, Bool, true, false, cond, not, ◌&&◌, ◌||◌, eqb, ltb, leb, ◌⊎◌, List, [], ◌∷◌, ◌++◌, map, reverse, length, get_or, set, replicate, Some, None, Option, sym, refl, ap, ◌∙◌, inl, inr, arith}
+use Rattle.std.proofs.Common.{◌≡◌, ℕ, zero, suc, ◌+◌, ◌-◌, ◌%◌, ◌<◌, Bool, true, false, cond, not, ◌&&◌, ◌||◌, eqb, ltb, leb, [], ◌∷◌, ◌++◌, map, length, set, replicate, Some, None, Option, sym, refl, ap, ◌∙◌, inl, inr, arith}
 use lib.ListN.{get_or-append}
-use Rattle.std.proofs.lemmas.List.{map-set, map_push, length-map, length-set, get_or_past}
-use Rattle.std.proofs.lemmas.Bool.{cases_lt, cases_Bool, lt-ltb, le-ltb, le-leb, lt-leb}
+use Rattle.std.proofs.lemmas.List.{map-set, map_push, length-map, get_or_past}
+use Rattle.std.proofs.lemmas.Bool.{cases_lt}
 use Rattle.std.proofs.lemmas.Bool.Decides.{nat_tests}
 use Rattle.rights.specs.declared.calls.NewObject.{NewObject}
 use Rattle.rights.specs.declared.calls.NewObject.TheVariants as new
@@ -18,8 +18,8 @@ use Rattle.model.specs.Plain as p
 use Rattle.model.specs.Calls as calls
 use Rattle.model.specs.Cuts as cuts
 use Rattle.model.specs.Meaning.{sizes, slot_of, number_of, object_of, world_of, went_of}
-use Rattle.model.proofs.Agree.{object, with_object, slot, with_slot, has_slot, Went, goes, less_one, at_world, put_world, slot_world, free_world, Tabled, with_world, full_has, free_has}
-use Rattle.model.proofs.Same.{does, refused, flip}
+use Rattle.model.proofs.Agree.{with_slot, goes, less_one, at_world, slot_world, free_world, Tabled, with_world, full_has}
+use Rattle.model.proofs.Same.{does, refused}
 use Rattle.model.proofs.Slots.{after_put, by_right, born_world, born_tabled, cond_pick}
 
 -- sizes

@@ -1,8 +1,8 @@
 -- Send and receive: the world in the code's parts does what the abstract world does.
-use Rattle.std.proofs.Common.{◌≡◌, ℕ, zero, suc, ◌+◌, ◌-◌, Bool, true, false, cond, not, ◌&&◌, ◌||◌, eqb, ltb, leb, List, [], ◌∷◌, ◌++◌, map, reverse, length, get_or, take, set, sym, refl, ap, ◌∙◌}
+use Rattle.std.proofs.Common.{◌≡◌, ℕ, Bool, true, false, cond, not, ◌&&◌, leb, List, [], ◌∷◌, sym, refl, ap, ◌∙◌}
 use Rattle.std.proofs.lemmas.List.{map-append}
 use Rattle.rights.specs.declared.answers.Answer.{Answer}
-use Rattle.rights.specs.declared.answers.Answer.TheVariants.{No, Done, Received}
+use Rattle.rights.specs.declared.answers.Answer.TheVariants.{Done, Received}
 use Rattle.rights.specs.Vocabulary.{four, words}
 use Rattle.rights.specs.World as w
 use Rattle.rv32.specs.declared.registers.Cpu.{Cpu}
@@ -16,8 +16,8 @@ use Rattle.model.specs.declared.objects.Wait.{Wait}
 use Rattle.model.specs.declared.objects.Wait.TheVariants.{Sender, Receiver}
 use Rattle.model.specs.Plain as p
 use Rattle.model.specs.Calls as calls
-use Rattle.model.specs.Meaning.{slot_of, number_of, state_of, core_of, wait_of, object_of, world_of, went_of}
-use Rattle.model.proofs.Agree.{object, with_object, slot, with_slot, has_slot, Went, goes, waits, less_one, at_world, put_world, slot_world, free_world, empty_world, Tabled, with_world, full_has, free_has}
+use Rattle.model.specs.Meaning.{slot_of, number_of, wait_of, object_of, world_of, went_of}
+use Rattle.model.proofs.Agree.{with_object, slot, with_slot, goes, waits, less_one, at_world, put_world, slot_world, free_world, empty_world, with_world, full_has, free_has}
 use Rattle.model.proofs.Same.{does, refused, flip}
 use Rattle.model.proofs.Slots.{tabled_after}
 

@@ -1,6 +1,6 @@
 -- Revoke: the world in the code's parts does what the abstract world does.
-use Rattle.std.proofs.Common.{◌≡◌, ℕ, zero, suc, ◌+◌, ◌-◌, Bool, true, false, cond, not, ◌&&◌, ◌||◌, eqb, ltb, List, [], ◌∷◌, ◌++◌, map, reverse, length, get_or, Some, None, Option, sym, refl, ap, ◌∙◌, subst, arith}
-use Rattle.rights.specs.declared.answers.Answer.TheVariants.{No, Done}
+use Rattle.std.proofs.Common.{◌≡◌, ℕ, zero, suc, ◌+◌, ◌-◌, Bool, true, false, cond, not, ◌&&◌, ◌||◌, eqb, List, [], ◌∷◌, ◌++◌, map, reverse, length, get_or, Some, None, Option, sym, refl, ap, ◌∙◌, arith}
+use Rattle.rights.specs.declared.answers.Answer.TheVariants.{No}
 use Rattle.rights.specs.World as w
 use Rattle.rv32.specs.declared.registers.Cpu.{Cpu}
 use Rattle.rv32.specs.Registers.{fresh}
@@ -16,11 +16,10 @@ use Rattle.model.specs.declared.objects.Wait.TheVariants.{Sender, Receiver}
 use Rattle.model.specs.Plain as p
 use Rattle.model.specs.Calls as calls
 use Rattle.model.specs.Sound.{Sound}
-use Rattle.model.specs.Sweeps.{marked, base_of, marks, cut_marks_from, cut_marks, kept_slot, kept_slots, who, kept_wait, kept_waits, kept_number, kept_pages, at_marked, kept_thread, kept, at_each, kept_at, swept, refilled, revoked, revoke}
+use Rattle.model.specs.Sweeps.{marked, base_of, marks, cut_marks_from, cut_marks, kept_slot, kept_slots, who, kept_waits, kept_number, kept_pages, at_marked, kept, at_each, kept_at, swept, refilled, revoked, revoke}
 use Rattle.model.specs.Meaning.{slot_of, number_of, state_of, core_of, wait_of, object_of, world_of, went_of}
-use Rattle.model.proofs.Agree.{object, with_object, slot, Went, goes, less_one, not_zero, at_world, put_world, same_object, slot_world}
+use Rattle.model.proofs.Agree.{object, with_object, slot, Went, goes, less_one, not_zero, at_world, put_world, slot_world}
 use Rattle.model.proofs.Same.{does, refused, unchanged}
-use Rattle.model.proofs.Slots.{cond_pick}
 use Rattle.model.proofs.Kin.{births_is, cuts_is}
 
 cons_both : {X : Type 0} (x y : X) (xs ys : List X) → x ≡ y → xs ≡ ys → x ∷ xs ≡ y ∷ ys

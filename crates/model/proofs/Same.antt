@@ -1,17 +1,12 @@
 -- Calls on slots, lines and threads: the world in the code's parts does what the abstract world does.
-use Rattle.std.proofs.Common.{◌≡◌, ℕ, zero, suc, ◌+◌, ◌-◌, ◌*◌, ◌/◌, ◌%◌, ◌<◌, ◌≤◌, Bool, true, false, cond, not, ◌&&◌, ◌||◌, eqb, ltb, leb, ◌⊎◌, List, [], ◌∷◌, ◌++◌, map, reverse, length, get_or, set, Some, None, Option, sym, refl, ap, ◌∙◌, inl, inr, arith}
-use Rattle.std.proofs.lemmas.List.{map-set, map_push, reverse-append, length-map}
-use Rattle.std.proofs.lemmas.Bool.{cases_Bool, cases_lt, lt-ltb, le-ltb, ne_eqb}
-use Rattle.rights.specs.declared.answers.Answer.{Answer}
-use Rattle.rights.specs.declared.answers.Answer.TheVariants.{No, Done, Heard, Received}
-use Rattle.rights.specs.declared.bits.Rights.{Rights}
-use Rattle.rights.specs.Vocabulary.{rights_of, met, words}
+use Rattle.std.proofs.Common.{◌≡◌, ℕ, suc, ◌%◌, Bool, true, false, cond, not, ◌&&◌, ◌||◌, eqb, ltb, [], ◌∷◌, map, get_or, set, Some, None, Option, sym, refl, ap, ◌∙◌, arith}
+use Rattle.std.proofs.lemmas.List.{map-set}
+use Rattle.std.proofs.lemmas.Bool.{ne_eqb}
+use Rattle.rights.specs.declared.answers.Answer.TheVariants.{No, Done}
 use Rattle.rights.specs.World as w
-use Rattle.rights.proofs.Lowest.{has_both_1, has_both_2, has_both_4}
 use Rattle.rv32.specs.declared.registers.Cpu.{Cpu}
 use Rattle.rv32.specs.Registers.{fresh}
 use Rattle.rv32.specs.Execute.{act}
-use Rattle.model.specs.declared.objects.Capability.{Capability}
 use Rattle.model.specs.declared.objects.Slot.{Slot}
 use Rattle.model.specs.declared.objects.Slot.TheVariants.{Empty, Full}
 use Rattle.model.specs.declared.objects.State.{State}
@@ -20,7 +15,7 @@ use Rattle.model.specs.declared.objects.Thread.{Thread}
 use Rattle.model.specs.Plain as p
 use Rattle.model.specs.Calls as calls
 use Rattle.model.specs.Meaning.{sizes, slot_of, number_of, state_of, core_of, object_of, world_of, went_of}
-use Rattle.model.proofs.Agree.{object, with_object, table_of, slots_of, with_slots, slot, with_slot, has_slot, Went, goes, waits, less_one, read_any, at_world, put_world, same_object, tables, slot_world, free_world, Tabled, with_world, full_has, free_has, empty_world}
+use Rattle.model.proofs.Agree.{object, with_object, slot, Went, goes, less_one, read_any, at_world, put_world, same_object, slot_world}
 
 abbrev pub does : w.World Cpu → ℕ → w.Call → Went
 does = w.does Cpu fresh act sizes

@@ -1,10 +1,8 @@
 -- Passes that add one mark for each element, by the marks so far.
-use Rattle.std.proofs.Common.{◌≡◌, ℕ, zero, suc, ◌+◌, ◌-◌, ◌<◌, ◌≤◌, Bool, true, false, cond, ◌||◌, ◌⊎◌, List, [], ◌∷◌, ◌++◌, map, length, get_or, take, sym, refl, ap, ◌∙◌, subst, inl, inr, append_assoc, arith, length-append}
-use lib.ListN.{get_or-append}
-use Rattle.std.proofs.lemmas.List.{get_or_past, take-append-le, take_all, get_or-take, length-take-le}
+use Rattle.std.proofs.Common.{◌≡◌, ℕ, zero, suc, ◌+◌, ◌<◌, ◌≤◌, Bool, false, List, [], ◌∷◌, ◌++◌, length, get_or, take, sym, refl, ap, ◌∙◌, subst, arith, length-append}
+use Rattle.std.proofs.lemmas.List.{take_all, get_or-take}
 use Rattle.model.specs.declared.objects.Slot.{Slot}
-use Rattle.model.specs.declared.objects.Slot.TheVariants.{Empty, Full}
-use Rattle.model.specs.Plain.{Thing, gone}
+use Rattle.model.specs.Plain.{Thing}
 use Rattle.model.specs.Sweeps.{mark_of, marks_from, cut_mark, cut_marks_from}
 
 unfoldable pub scan : {X : Type 0} → (List Bool → X → Bool) → List Bool → List X → List Bool

@@ -1,25 +1,21 @@
 -- Drop, move and copy: the world in the code's parts does what the abstract world does.
-use Rattle.std.proofs.Common.{◌≡◌, ℕ, zero, suc, ◌+◌, ◌-◌, ◌<◌, ◌≤◌, Bool, true, false, cond, not, ◌&&◌, ◌||◌, eqb, ltb, leb, ◌⊎◌, List, [], ◌∷◌, ◌++◌, map, reverse, length, get_or, set, Some, None, Option, sym, refl, ap, ◌∙◌, inl, inr, arith, get_or-set_other, get_or-set_same}
-use lib.Bits.{bit_and}
+use Rattle.std.proofs.Common.{◌≡◌, ℕ, suc, Bool, true, false, cond, not, ◌&&◌, ◌||◌, eqb, ltb, ◌⊎◌, [], ◌∷◌, map, length, get_or, set, Some, None, Option, sym, refl, ap, ◌∙◌, inl, inr, get_or-set_other, get_or-set_same}
 use Rattle.std.proofs.lemmas.List.{set_past}
-use Rattle.std.proofs.lemmas.Bool.{cases_Bool, cases_lt, cases_eq}
-use Rattle.rights.specs.declared.answers.Answer.TheVariants.{No, Done}
+use Rattle.std.proofs.lemmas.Bool.{cases_lt, cases_eq}
 use Rattle.rights.specs.declared.bits.Rights.{Rights}
-use Rattle.rights.specs.Vocabulary.{rights_of, met, has}
+use Rattle.rights.specs.Vocabulary.{rights_of, met}
 use Rattle.rights.specs.World as w
 use Rattle.rights.proofs.Lowest.{has_both_1, has_both_2, has_both_4}
 use Rattle.rv32.specs.declared.registers.Cpu.{Cpu}
-use Rattle.rv32.specs.Registers.{fresh}
-use Rattle.rv32.specs.Execute.{act}
 use Rattle.model.specs.declared.objects.Capability.{Capability}
 use Rattle.model.specs.declared.objects.Slot.{Slot}
 use Rattle.model.specs.declared.objects.Slot.TheVariants.{Empty, Full}
 use Rattle.model.specs.Plain as p
 use Rattle.model.specs.Calls as calls
-use Rattle.model.specs.Meaning.{slot_of, number_of, object_of, world_of, went_of}
+use Rattle.model.specs.Meaning.{slot_of, object_of, world_of, went_of}
 use Rattle.model.proofs.Lists.{push_reverse}
-use Rattle.model.proofs.Agree.{object, slot, with_slot, has_slot, Went, goes, slot_world, free_world, Tabled, with_world, full_has, free_has}
-use Rattle.model.proofs.Same.{does, refused, flip}
+use Rattle.model.proofs.Agree.{with_slot, Went, goes, slot_world, free_world, Tabled, with_world, full_has}
+use Rattle.model.proofs.Same.{does}
 
 -- an object after one was written
 pub after_put : (v : p.Whole) (t q : ℕ) (y : p.Thing) → (p.object (p.with_object v t y) q ≡ p.object v q) ⊎ ((q ≡ t) × (p.object (p.with_object v t y) q ≡ y))

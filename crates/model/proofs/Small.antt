@@ -1,5 +1,5 @@
 -- The small world is sound.
-use Rattle.std.proofs.Common.{◌≡◌, ℕ, zero, suc, ◌+◌, ◌<◌, ◌≤◌, List, [], ◌∷◌, length, get_or, replicate, Some, None, Option, sym, refl, ap, ◌∙◌, arith}
+use Rattle.std.proofs.Common.{◌≡◌, ℕ, zero, suc, ◌<◌, ◌≤◌, List, length, get_or, replicate, Some, None, Option, sym, refl, ap, ◌∙◌, arith}
 use Rattle.std.proofs.lemmas.Bool.{le-ltb}
 use Rattle.model.specs.declared.objects.Capability.{Capability}
 use Rattle.model.specs.declared.objects.Slot.{Slot}
@@ -7,7 +7,7 @@ use Rattle.model.specs.declared.objects.Slot.TheVariants.{Empty, Full}
 use Rattle.model.specs.declared.objects.Thread.{Thread}
 use Rattle.model.specs.Example.{small, SmallIsSound}
 use Rattle.model.specs.Plain as p
-use Rattle.model.specs.Sound.{Dense, Sound}
+use Rattle.model.specs.Sound.{Dense}
 
 no_full : (c : Capability) → ◌≡◌ {A = Slot} Empty (Full c) → ⊥
 no_full c e = let z : ◌≡◌ {A = ℕ} 0 1 = cc in omega arith

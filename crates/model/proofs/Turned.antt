@@ -1,26 +1,18 @@
 -- One step of a thread: the world in the code's parts does what the abstract world does.
-use Rattle.std.proofs.Common.{◌≡◌, ℕ, zero, suc, ◌+◌, ◌-◌, ◌*◌, ◌/◌, ◌%◌, ◌<◌, ◌≤◌, Bool, true, false, cond, not, ◌&&◌, ◌||◌, eqb, ltb, leb, ◌⊎◌, List, [], ◌∷◌, ◌++◌, map, reverse, length, get_or, set, Some, None, Option, sym, refl, ap, ◌∙◌, subst, inl, inr, arith}
-use mathlib.Core.Path.{fun_ext}
+use Rattle.std.proofs.Common.{◌≡◌, ℕ, zero, suc, ◌+◌, ◌-◌, ◌/◌, ◌%◌, ◌<◌, ◌≤◌, Bool, true, false, cond, not, ◌&&◌, eqb, List, [], ◌∷◌, map, length, get_or, set, Some, None, Option, sym, refl, ap, ◌∙◌, inl, inr, arith}
 use Rattle.std.proofs.lemmas.List.{get_or_past, length-set}
-use Rattle.std.proofs.lemmas.Bool.{cases_lt, cases_Bool, lt-ltb, le-ltb, ltb-false, le-leb, leb-true}
-use Rattle.rights.specs.declared.calls.Call.{Call}
-use Rattle.rights.specs.Request.{call_of}
+use Rattle.std.proofs.lemmas.Bool.{cases_lt, lt-ltb, le-ltb, le-leb}
 use Rattle.rights.specs.Vocabulary.{words}
 use Rattle.rights.specs.World as w
 use Rattle.rv32.specs.declared.registers.Cpu.{Cpu}
-use Rattle.rv32.specs.declared.forms.Width.{Width}
-use Rattle.rv32.specs.declared.steps.Step.{Step}
-use Rattle.rv32.specs.declared.steps.Step.TheVariants as step
-use Rattle.rv32.specs.Registers.{fresh, next, returned}
-use Rattle.rv32.specs.Execute.{act, told, bytes}
+use Rattle.rv32.specs.Registers.{fresh, returned}
+use Rattle.rv32.specs.Execute.{act}
 use Rattle.model.specs.declared.objects.State.{State}
 use Rattle.model.specs.declared.objects.State.TheVariants.{Stopped, Ready, Waits}
-use Rattle.model.specs.declared.objects.Thread.{Thread}
 use Rattle.model.specs.Plain as p
 use Rattle.model.specs.Turns as turns
-use Rattle.model.specs.Meaning.{sizes, slot_of, number_of, state_of, core_of, object_of, world_of, went_of}
-use Rattle.model.proofs.Agree.{object, with_object, Went, goes, less_one, not_zero, read_any, at_world, put_world}
-use Rattle.model.proofs.Same.{does}
+use Rattle.model.specs.Meaning.{sizes, number_of, state_of, core_of, object_of, world_of, went_of}
+use Rattle.model.proofs.Agree.{object, with_object, less_one, not_zero, read_any, at_world, put_world}
 
 -- a thread in another state
 state_world : (s : State) (c : Cpu) (x : p.Thing) → object_of (turns.set_state s c x) ≡ w.set_state Cpu fresh act (object_of x) (state_of s c) (core_of s c)

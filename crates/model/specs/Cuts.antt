@@ -1,8 +1,8 @@
 -- Cut over the world in the code's own parts. Sizes and used parts have 64 bits, and no pool is larger. Assumes nothing: these are definitions.
-use Rattle.std.specs.Prelude.{ℕ, ◌+◌, ◌^◌, Bool, true, false, cond, ◌&&◌, Some, None, Option, nat_le, nat_lt}
+use Rattle.std.specs.Prelude.{ℕ, ◌^◌, cond, ◌&&◌, Some, None, Option, nat_le, nat_lt}
 use Rattle.rights.specs.declared.calls.NewObject.{NewObject}
 use Rattle.model.specs.Plain.{Thing, pool, Whole, on_pool, on_full, on_some, object, with_object, slot, free, with_slot, Ended, refuse, done}
-use Rattle.model.specs.Calls.{writes, right, filling, up_to, cost, used_after, new_thing, grown, born, newborn}
+use Rattle.model.specs.Calls.{writes, right, used_after, new_thing, grown, born, newborn}
 
 -- a number, if it has 64 bits
 abbrev pub if_64_bits : ℕ → Option ℕ

@@ -1,11 +1,10 @@
 -- A small world of which all that is asked of a world holds. Assumes nothing: these are definitions and a statement.
-use Rattle.std.specs.Prelude.{ℕ, true, false, List, [], ◌∷◌, replicate, Some, None}
+use Rattle.std.specs.Prelude.{ℕ, false, [], ◌∷◌, replicate, Some, None}
 use Rattle.rights.specs.Vocabulary.{all_three}
 use Rattle.rv32.specs.Registers.{fresh}
 use Rattle.model.specs.declared.objects.Slot.{Slot}
 use Rattle.model.specs.declared.objects.Slot.TheVariants.{Empty, Full}
 use Rattle.model.specs.declared.objects.State.TheVariants.{Ready}
-use Rattle.model.specs.declared.objects.Thread.{Thread}
 use Rattle.model.specs.Plain.{Whole, pool, table, thread, line}
 use Rattle.model.specs.Sound.{Sound}
 

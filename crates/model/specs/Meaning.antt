@@ -1,5 +1,5 @@
 -- What the world in the code's own parts means: the abstract world at the core RV32I. Assumes nothing: these are definitions.
-use Rattle.std.specs.Prelude.{ℕ, suc, Bool, List, map, reverse, Some, None, Option, nat_le}
+use Rattle.std.specs.Prelude.{ℕ, suc, map, reverse, Some, None, Option, nat_le}
 use Rattle.rights.specs.Vocabulary.{four, rights_of, words}
 use Rattle.rights.specs.World as w
 use Rattle.rv32.specs.declared.registers.Cpu.{Cpu}

@@ -1,6 +1,6 @@
 -- The world in the code's own parts: slots, threads, those who wait and answers are the code's types, and what holds many has a list.
 -- Assumes nothing: these are definitions.
-use Rattle.std.specs.Prelude.{ℕ, zero, suc, ◌+◌, ◌-◌, ◌/◌, ◌%◌, Bool, true, false, cond, not, ◌&&◌, ltb, List, [], ◌∷◌, ◌++◌, map, length, Some, None, vec_items, Option, nat_lt, slice_index_or, slice_set}
+use Rattle.std.specs.Prelude.{ℕ, Bool, true, false, cond, ◌&&◌, ltb, List, map, length, Some, None, vec_items, Option, nat_lt, slice_index_or, slice_set}
 use Rattle.rights.specs.declared.answers.Answer.{Answer}
 use Rattle.rights.specs.declared.answers.Answer.TheVariants.{No, Done}
 use Rattle.model.specs.declared.ends.Outcome.{Outcome}

@@ -4,7 +4,7 @@ use Rattle.model.specs.declared.objects.Capability.{Capability}
 use Rattle.model.specs.declared.objects.Slot.{Slot}
 use Rattle.model.specs.declared.objects.Slot.TheVariants.{Empty, Full}
 use Rattle.model.specs.declared.objects.Thread.{Thread}
-use Rattle.model.specs.Plain.{Thing, page, thread, Whole, object, from_of, slot_at}
+use Rattle.model.specs.Plain.{page, thread, Whole, object, from_of, slot_at}
 use Rattle.model.specs.Calls.{is_page}
 use Rattle.model.specs.Sweeps.{base_of}
 

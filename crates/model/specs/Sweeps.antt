@@ -1,6 +1,6 @@
 -- Revoke over the world in the code's own parts: what was made from a capability is marked in one pass over the lineage, what was cut
 -- from a pool in one pass over the objects, and both are taken out of every object. Assumes nothing: these are definitions.
-use Rattle.std.specs.Prelude.{ℕ, suc, ◌+◌, ◌-◌, Bool, true, false, cond, not, ◌&&◌, ◌||◌, List, [], ◌∷◌, ◌++◌, map, length, Some, None, Option, ◌==◌, nat_lt, slice_index_or}
+use Rattle.std.specs.Prelude.{ℕ, suc, ◌-◌, Bool, false, cond, not, ◌&&◌, ◌||◌, List, [], ◌∷◌, ◌++◌, map, length, Some, None, Option, ◌==◌, nat_lt, slice_index_or}
 use Rattle.rights.specs.declared.answers.Answer.TheVariants.{No}
 use Rattle.model.specs.declared.objects.Capability.{Capability}
 use Rattle.model.specs.declared.objects.Slot.{Slot}
@@ -11,7 +11,7 @@ use Rattle.model.specs.declared.objects.Thread.{Thread}
 use Rattle.model.specs.declared.objects.Wait.{Wait}
 use Rattle.model.specs.declared.objects.Wait.TheVariants.{Sender, Receiver}
 use Rattle.model.specs.Plain.{Thing, gone, pool, table, port, page, thread, line, Whole, on_pool, on_full, on_some, from_of, object, with_object, slot, Ended, refuse, done}
-use Rattle.model.specs.Calls.{writes, is_pool, with_state, then_of}
+use Rattle.model.specs.Calls.{writes, is_pool, then_of}
 
 -- marks for the births after base, in their order
 abbrev pub marked : ℕ → List Bool → ℕ → Bool

@@ -1,11 +1,9 @@
 -- One event over the world in the code's own parts. Assumes nothing: these are definitions.
-use Rattle.std.specs.Prelude.{◌≡◌, ℕ, suc, ◌+◌, ◌-◌, ◌*◌, ◌/◌, ◌%◌, Bool, true, false, cond, not, ◌&&◌, List, [], ◌∷◌, ◌++◌, length, Some, None, Option, nat_le, nat_lt, slice_index, slice_index_or, slice_set}
-use Rattle.rights.specs.declared.answers.Answer.{Answer}
+use Rattle.std.specs.Prelude.{◌≡◌, ℕ, ◌+◌, ◌/◌, ◌%◌, Bool, true, false, cond, ◌&&◌, List, [], ◌∷◌, length, Some, None, Option, nat_le, nat_lt, slice_index, slice_index_or, slice_set}
 use Rattle.rights.specs.declared.calls.Call.{Call}
 use Rattle.rights.specs.declared.calls.Call.TheVariants as call
 use Rattle.rights.specs.Vocabulary.{words}
 use Rattle.rv32.specs.declared.registers.Cpu.{Cpu}
-use Rattle.rv32.specs.declared.forms.Width.{Width}
 use Rattle.rv32.specs.declared.steps.Step.{Step}
 use Rattle.rv32.specs.declared.steps.Step.TheVariants as step
 use Rattle.rv32.specs.Registers.{fresh, next, gone_on, returned}
@@ -13,7 +11,6 @@ use Rattle.rv32.specs.Execute.{bytes, act, told}
 use Rattle.rights.specs.World.{Act}
 use Rattle.model.specs.declared.objects.State.{State}
 use Rattle.model.specs.declared.objects.State.TheVariants.{Stopped, Ready, Waits}
-use Rattle.model.specs.declared.objects.Thread.{Thread}
 use Rattle.model.specs.Plain.{Thing, page, thread, Whole, on_page, on_thread, on_some, object, with_object, Ended, on, wait}
 use Rattle.model.specs.Calls as calls
 use Rattle.model.specs.Calls.{with_state}

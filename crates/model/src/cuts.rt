@@ -179,7 +179,7 @@ impl World {
             return Ok(Answer::No);
         };
         let child = self.newborn(mother)?;
-        let it = Object::made(self.objects.allocator(), o, what)?;
+        let it = Object::made(*self.objects.allocator(), o, what)?;
         self.set_used(o, after);
         self.add(it)?;
         self.bear(child)?;

@@ -1,4 +1,6 @@
 // The abstract world as a program: vectors of objects, with numbers and births that are never used again.
+#![tactic(auto)]
+
 mod calls;
 mod cuts;
 mod ends;

@@ -108,7 +108,7 @@ impl World {
         ensures { IfOk result (λ v. v.items ≡ sweeps.marks (plain.plain self.now) root) }
     {
         marks_of(
-            self.lineage.allocator(),
+            *self.lineage.allocator(),
             root,
             self.base(),
             self.lineage.as_slice(),
@@ -119,8 +119,8 @@ impl World {
         ensures { IfOk result (λ v. v.items ≡ sweeps.cut_marks (plain.plain self.now) o) }
     {
         if !self.is_pool(o) {
-            return Ok(Vec::new(self.objects.allocator()));
+            return Ok(Vec::new(*self.objects.allocator()));
         }
-        cut_marks_of(self.objects.allocator(), o, self.objects.as_slice())
+        cut_marks_of(*self.objects.allocator(), o, self.objects.as_slice())
     }
 }

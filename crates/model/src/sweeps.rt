@@ -125,7 +125,7 @@ impl Object {
         match self {
             Object::Table { slots, .. } => keep_slots(base, births, objects, slots),
             Object::Port { queue, .. } => *queue = kept_waits(
-                queue.allocator(),
+                *queue.allocator(),
                 objects,
                 queue.as_slice(),
             )?,

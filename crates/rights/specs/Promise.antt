@@ -1,8 +1,8 @@
 -- Statements about the abstract world. Each is a type; a proof of it is a theorem, and stands elsewhere. Assumes nothing.
 -- They are about every core: Cpu is what a core keeps, fresh a new one, act what the instruction at hand does.
-use Rattle.std.specs.Prelude.{◌≡◌, ℕ, zero, suc, ◌+◌, ◌-◌, ◌*◌, ◌<◌, ◌≤◌, Bool, true, false, not, ◌&&◌, ◌||◌, ◌≢◌, ◌⊎◌, List, [], ◌∷◌, ◌++◌, length, take, ◌==◌, slice_index, slice_index_or}
+use Rattle.std.specs.Prelude.{◌≡◌, ℕ, zero, suc, ◌+◌, ◌-◌, ◌*◌, ◌<◌, ◌≤◌, Bool, true, false, ◌≢◌, List, [], ◌∷◌, ◌++◌, length, take, ◌==◌, slice_index, slice_index_or}
 use Rattle.rights.specs.World.{Act, World, Sizes, Event, Object, Slot, Rights, Call, Kind, State, Wait, Went}
-use Rattle.rights.specs.World.{empty, cap, gone, thread, table, pool, port, page, line, stopped, ready, waits, sender, receiver, tick, byte, on, wait, quiet, store, call, wrong}
+use Rattle.rights.specs.World.{empty, cap, gone, thread, table, pool, port, page, line, stopped, ready, waits, tick, byte, on, wait, quiet, store, call, wrong}
 use Rattle.rights.specs.World.{cut, copy, move, drop_it, revoke, send, receive, map, unmap, bind, go, say, hear, a_pool, a_table, a_port, a_page}
 use Rattle.rights.specs.World.{object, event, run, shown_by, does, offspring, slot, slots_of, from_of, has_slot, slot_object, slot_badge, waits_thread, seen, made, all_rights, among, pick, no, up_to, step_of, cost}
 

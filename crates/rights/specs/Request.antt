@@ -1,6 +1,5 @@
 -- Which call seven numbers ask for: its number and six arguments. Assumes nothing: these are definitions.
-use Rattle.std.specs.Prelude.{ℕ, Bool, true, false, cond, ◌&&◌, List, [], ◌∷◌, Some, None, Option, ◌==◌, nat_le, nat_lt, slice_index}
-use Rattle.rights.specs.declared.bits.Rights.{Rights}
+use Rattle.std.specs.Prelude.{ℕ, cond, ◌&&◌, List, [], ◌∷◌, Some, None, Option, ◌==◌, nat_le, nat_lt, slice_index}
 use Rattle.rights.specs.declared.calls.Call.{Call}
 use Rattle.rights.specs.declared.calls.Call.TheVariants.{Cut, Copy, Move, Drop, Revoke, Send, Receive, Map, Unmap, Bind, Go, Say, Hear}
 use Rattle.rights.specs.declared.calls.NewObject.{NewObject}

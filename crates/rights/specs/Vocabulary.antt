@@ -1,5 +1,5 @@
 -- The numbers of kinds, rights, refusals and answers. Assumes nothing: these are definitions.
-use Rattle.std.specs.Prelude.{ℕ, Bool, true, false, cond, not, List, [], ◌∷◌, ◌++◌, length, Some, None, codes, decimal, Option, ◌==◌, bit_and, nat_le, nat_lt, slice_index}
+use Rattle.std.specs.Prelude.{ℕ, Bool, true, cond, not, List, [], ◌∷◌, ◌++◌, length, Some, None, codes, decimal, Option, ◌==◌, bit_and, nat_le, nat_lt, slice_index}
 use Rattle.rights.specs.declared.answers.Answer.{Answer}
 use Rattle.rights.specs.declared.answers.Answer.TheVariants.{No, Done, Heard, Received}
 use Rattle.rights.specs.declared.bits.Rights.{Rights}

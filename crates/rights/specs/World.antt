@@ -2,7 +2,7 @@
 -- There are no addresses, frames, page tables or queues of memory in it. Objects have numbers in the order in which they came to be,
 -- and no number is used again. The core is a parameter: what the instruction at hand does, given its registers and the bytes of its space.
 -- Assumes nothing: these are definitions.
-use Rattle.std.specs.Prelude.{◌≡◌, ℕ, zero, suc, ◌+◌, ◌-◌, ◌*◌, ◌/◌, ◌%◌, ◌<◌, ◌≤◌, Bool, true, false, not, ◌&&◌, ◌||◌, List, [], ◌∷◌, ◌++◌, length, take, replicate, ◌==◌, nat_le, nat_lt, slice_index, slice_index_or, slice_set}
+use Rattle.std.specs.Prelude.{ℕ, zero, suc, ◌+◌, ◌-◌, ◌*◌, ◌/◌, ◌%◌, Bool, true, false, not, ◌&&◌, ◌||◌, List, [], ◌∷◌, ◌++◌, length, take, replicate, ◌==◌, nat_le, nat_lt, slice_index, slice_index_or, slice_set}
 
 -- one of two things, by a test
 abbrev pub pick : {A : Type 0} → Bool → A → A → A

@@ -1,5 +1,7 @@
 // The vocabulary of the kernel: rights, kinds of objects, calls, refusals and what comes back.
 // The abstract world that they speak of is specs/World.antt.
+#![tactic(auto)]
+
 mod answers;
 mod bits;
 mod calls;

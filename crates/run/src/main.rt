@@ -1,4 +1,6 @@
 // run IMAGE EVENTS: takes an image and a row of events, or says by number and place why not.
+#![tactic(auto)]
+
 use anyhow::anyhow;
 use image::{Inputs, Unreadable};
 use std::env;

@@ -1,4 +1,6 @@
 // The RV32I core: what one instruction does.
+#![tactic(auto)]
+
 mod arithmetic;
 mod decoding;
 mod forms;

@@ -39,14 +39,14 @@ pub trait Memory {
 
 // A byte may be at any address.
 fn byte_at<M: Memory>(memory: &M, address: u32) -> Option<u8>
-    ensures { result ≡ spec.aligned (seen memory.now) address 1 }
+    ensures { result ≡ spec.aligned (M.seen memory.now) address 1 }
 {
     memory.byte(address)
 }
 
 // What a load reads, extended to 32 bits.
 pub fn loaded<M: Memory>(memory: &M, what: Loading, address: u32) -> Option<u32>
-    ensures { result ≡ spec.loaded (seen memory.now) what address }
+    ensures { result ≡ spec.loaded (M.seen memory.now) what address }
 {
     match what {
         Loading::Lb => Some(i32::from(byte_at(memory, address)?.cast_signed()).cast_unsigned()),

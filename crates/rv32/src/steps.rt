@@ -104,7 +104,7 @@ fn ecall(cpu: &Cpu) -> Step
 }
 
 fn execute<M: Memory>(cpu: &Cpu, memory: &M, instruction: Instruction) -> Step
-    ensures { spec.told cpu.now result ≡ spec.execute cpu.now (seen memory.now) instruction }
+    ensures { spec.told cpu.now result ≡ spec.execute cpu.now (M.seen memory.now) instruction }
 {
     match instruction {
         Instruction::Lui { rd, immediate } => write(cpu, rd, immediate.cast_unsigned()),
@@ -177,7 +177,7 @@ fn execute<M: Memory>(cpu: &Cpu, memory: &M, instruction: Instruction) -> Step
 
 // The instruction at the pc.
 pub fn act<M: Memory>(cpu: &Cpu, memory: &M) -> Step
-    ensures { spec.told cpu.now result ≡ spec.act cpu.now (seen memory.now) }
+    ensures { spec.told cpu.now result ≡ spec.act cpu.now (M.seen memory.now) }
 {
     let Some(word) = memory.word(cpu.pc) else {
         return Step::Stop;

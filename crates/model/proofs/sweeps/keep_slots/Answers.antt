@@ -1,4 +1,4 @@
-use Rattle.std.proofs.Common.{◌≡◌, ◌<◌, length, set, sym, ap, ◌∙◌, arith}
+use Rattle.std.proofs.Common.{◌<◌, length, set, ap, ◌∙◌, arith}
 use Rattle.std.proofs.lemmas.List.{length-set}
 use Rattle.std.proofs.lemmas.List.Edits.{map_over_more}
 use Rattle.model.specs.Sweeps.{kept_slot}
@@ -10,8 +10,8 @@ loop-i-preserved c =
     let xs = c.args.slots.now.items in
     let ys = c.loop-i.slots.items in
     let h : c.loop-i.i < length xs = omega (arith, c.loop-i-test.true, c.len-i-end.ensures, c.args.slots.now.ok.0) in (
-      length-set ys c.loop-i.i c.kept-slot.result ∙ c.loop-i.invariant.0,
-      ap (set ys c.loop-i.i) c.kept-slot.ensures
+      length-set ys c.loop-i.i c.kept_slot.result ∙ c.loop-i.invariant.0,
+      ap (set ys c.loop-i.i) c.kept_slot.ensures
           ∙ map_over_more (kept_slot c.args.base c.args.births.now c.args.objects.now) xs ys c.loop-i.i c.index.result.now h c.loop-i.invariant.1 c.index.ensures,
     )
 

@@ -1,4 +1,4 @@
-use Rattle.std.proofs.Common.{◌≡◌, List, vec_items, sym, refl, ap, ◌∙◌}
+use Rattle.std.proofs.Common.{List, vec_items, refl, ap}
 use Rattle.std.proofs.lemmas.List.{map-set}
 use Rattle.model.specs.Plain as the
 use Rattle.model.proofs.Lists.{read_item, past_item}
@@ -10,8 +10,9 @@ returns c =
     let v = c.args.self.now in
     let put : List the.Thing → the.Whole = λ xs. record { things = xs; births = v.births; lineage = vec_items v.lineage } in (
       (refl, λ w. ap put (map-set the.thing (vec_items v.objects) c.args.o w), refl),
-      (
-        read_item the.thing the.gone (vec_items v.objects) c.args.o c.get-mut.result c.get-mut.ensures.item,
-        past_item the.thing (vec_items v.objects) c.args.o c.get-mut.result c.get-mut.ensures.item put,
-      ),
+      record {
+        follows = tt;
+        finds = read_item (λ x. x.now) the.thing the.gone (vec_items v.objects) c.args.o c.get_mut.result c.get_mut.ensures.item;
+        past = past_item (λ x. x.now) the.thing (vec_items v.objects) c.args.o c.get_mut.result c.get_mut.ensures.item put;
+      },
     )
