@@ -2,7 +2,7 @@
 use Rattle.std.proofs.Common.{◌≡◌, ℕ, suc, ◌+◌, ◌-◌, ◌*◌, ◌/◌, ◌%◌, ◌^◌, ◌<◌, ◌≤◌, eqb, ltb, ◌⊎◌, List, [], ◌∷◌, ℤ, pos, negsuc, ◌-ℤ◌, Some, None, Option, sym, refl, ap, ◌∙◌, subst, inl, inr, arith, lit<, w32}
 use Rattle.std.proofs.lemmas.Int.{ints, of_z-to_z}
 use Rattle.std.proofs.lemmas.Bool.{cond_both, eqb-true, ltb-true, ltb-false}
-use Rattle.std.specs.List.{AllByRecursion as All}
+use Rattle.std.specs.List.{AllByRecursion}
 use Rattle.rights.specs.Request.{choose}
 use Rattle.rv32.specs.declared.forms.Operation.{Operation}
 use Rattle.rv32.specs.declared.forms.Operation.TheVariants.{Add, Sub, Sll, Slt, Sltu, Xor, Srl, Sra, Or, And}
@@ -20,7 +20,7 @@ use Rattle.rv32.specs.Encode.{word, funct7_of, funct3_of, when_code, width_code,
 use Rattle.rv32.proofs.Encoded.{reads_back}
 
 -- what holds of each row that fits, and of the default, holds of what is chosen
-pub choose_each : {X : Type 0} (P : X → Type 0) (n : ℕ) (rows : List (ℕ × X)) (d : X) → All (λ r. n ≡ r.0 → P r.1) rows → P d → P (choose n rows d)
+pub choose_each : {X : Type 0} (P : X → Type 0) (n : ℕ) (rows : List (ℕ × X)) (d : X) → AllByRecursion (λ r. n ≡ r.0 → P r.1) rows → P d → P (choose n rows d)
 choose_each P n [] d h k = k
 choose_each P n (r ∷ rs) d h k = cond_both (eqb n r.0) r.1 (choose n rs d) P (λ e. h.0 (eqb-true n r.0 e)) (λ e. choose_each P n rs d h.1 k)
 

@@ -4,7 +4,7 @@ use lib.Signed.{lt_z, shr_z, mag_shr}
 use mir.ValLaws.{of_z_fits, to_z-Fits, sfits_le}
 use Rattle.std.proofs.lemmas.Nat.{mod_below, xor_lt, or_lt, and_le_l, shr_le}
 use Rattle.std.proofs.lemmas.Bool.{cond_both, and_parts, ltb-true, cases_eq, not-true, eqb-false}
-use Rattle.std.specs.List.{AllByRecursion as All}
+use Rattle.std.specs.List.{AllByRecursion}
 use Rattle.rights.specs.World as world
 use Rattle.rv32.specs.declared.registers.Cpu.{Cpu}
 use Rattle.rights.specs.declared.calls.Call.{Call}
@@ -118,7 +118,7 @@ after_load : (c : Cpu) (m : ℕ → ℕ) (t : Loading) (d : ℕ) (o : Option ℕ
 after_load c m t d None h s = tt
 after_load c m t d (Some v) h s = sound_next (put c d (widened t v)) (sound_put c d (widened t v) (widened_below m t v h) s)
 
-bytes_small : (w : Width) (v : ℕ) → All (λ b. b < 256) (bytes w v)
+bytes_small : (w : Width) (v : ℕ) → AllByRecursion (λ b. b < 256) (bytes w v)
 bytes_small Byte v = (omega arith, tt)
 bytes_small Half v = (omega arith, (omega arith, tt))
 bytes_small Word v = (omega arith, (omega arith, (omega arith, (omega arith, tt))))

@@ -1,6 +1,6 @@
 -- What each instruction keeps: x0 is 0, and the pc and 32 registers are below 2 ^ 32. Assumes nothing: these are statements.
 use Rattle.std.specs.Prelude.{◌≡◌, ℕ, ◌^◌, ◌<◌, ◌≤◌, List, length, slice_index, slice_index_or}
-use Rattle.std.specs.List.{AllByRecursion as All}
+use Rattle.std.specs.List.{AllByRecursion}
 use Rattle.rights.specs.World as world
 use Rattle.rv32.specs.declared.registers.Cpu.{Cpu}
 use Rattle.rv32.specs.Registers.{fresh, x, put}
@@ -19,7 +19,7 @@ pub record Sound (c : Cpu) : Type 0 where
 
 -- numbers of 32 bits
 abbrev pub Words : List ℕ → Type 0
-Words ws = All (λ w. w < 2 ^ 32) ws
+Words ws = AllByRecursion (λ w. w < 2 ^ 32) ws
 
 -- what a call hands on to others fits: a badge, the words of a message, a pc
 abbrev pub Carries : world.Call → Type 0
@@ -40,7 +40,7 @@ Carries (world.hear s) = Unit {0}
 -- what an act leaves is sound, also when a call comes back with words; what is stored are bytes
 abbrev pub After : world.Act Cpu → Type 0
 After (world.quiet d) = Sound d
-After (world.store a bs d) = (a < 2 ^ 32) × All (λ b. b < 256) bs × Sound d
+After (world.store a bs d) = (a < 2 ^ 32) × AllByRecursion (λ b. b < 256) bs × Sound d
 After (world.call k then) = Carries k × ((ws : List ℕ) → Words ws → Sound (then ws))
 After world.wrong = Unit {0}
 
