@@ -27,8 +27,13 @@ def read(path):
         return f.read()
 
 
+def divided(name):
+    """Whether a name has a dash, or is a fact that port.py joined by a line below."""
+    return "-" in name or (name[0].isupper() and "_" in name)
+
+
 def declared():
-    """Each name with a dash that a file of specs/ or proofs/ declares, and the words before it."""
+    """Each divided name that a file of specs/ or proofs/ declares, and the words before it."""
     names = {}
     for path in antt_files():
         made = path.endswith(("/Answers.antt", "/Invariants.antt"))
@@ -37,7 +42,7 @@ def declared():
         for line in text.split("\n"):
             code = line.split("--")[0]
             match = DECLARATION.match(code + " ")
-            if match and "-" in match.group(3) and not (made and "goal." in line):
+            if match and divided(match.group(3)) and not (made and "goal." in line):
                 words = names.setdefault(match.group(3), set())
                 words.update(match.group(2).split())
                 words.update({"type"} if code.rstrip().endswith("Type 0") else set())
@@ -49,7 +54,7 @@ def declared():
 
 
 def spelled(name, words):
-    parts = name.split("-")
+    parts = re.split("[-_]", name) if name[0].isupper() else name.split("-")
     if name in OTHER:
         return OTHER[name]
     if not all(p and PLAIN.match(p) for p in parts):

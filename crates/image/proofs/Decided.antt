@@ -10,7 +10,7 @@ use Rattle.image.specs.declared.census.Kinds.{Kinds}
 use Rattle.image.specs.Fields.{one, two, Read, ◌then◌, judged}
 use Rattle.image.specs.Format.{head_at, differs, magic, count, headers, body}
 use Rattle.image.specs.Layout.{frames_for}
-use Rattle.image.specs.Prefix.{SameBelow, field_end, DecidedEarly, Goes_on}
+use Rattle.image.specs.Prefix.{SameBelow, field_end, DecidedEarly, GoesOn}
 use Rattle.image.specs.Verdict.{verdict}
 use Rattle.image.proofs.Told.{Told, Halt, longer, told_then, told_past, told_test, told_ok}
 use Rattle.image.proofs.Early.{same_two, headers_told, body_told}
@@ -190,7 +190,7 @@ decided_early ks frames others bs cs e v low high g =
     sym (verdict_is ks others cs)
     ∙ stays bs cs (field_end (two bs 4)) (reading ks bs) (reading ks cs) (reading_told bs cs ks) frames others e (verdict_is ks frames bs ∙ v) low high g
 
-pub goes_on : Goes_on
+pub goes_on : GoesOn
 goes_on ks frames others p bs cs v low more g =
     sym (verdict_is ks others cs)
     ∙ goes bs cs (field_end (two bs 4)) (reading ks bs) (reading ks cs) (reading_told bs cs ks) frames others p (verdict_is ks frames bs ∙ v) low more g

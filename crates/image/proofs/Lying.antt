@@ -6,7 +6,7 @@ use Rattle.rights.specs.World as world
 use Rattle.rights.specs.declared.kinds.Kind.{Kind}
 use Rattle.rights.specs.declared.kinds.Kind.TheVariants.{Pool, Table, Port, Page, Thread, Line}
 use Rattle.rights.specs.Vocabulary.{kind_number}
-use Rattle.image.specs.Apart.{own_frames, Laid_out, board_sizes, as_cut, LiesApart}
+use Rattle.image.specs.Apart.{own_frames, LaidOut, board_sizes, as_cut, LiesApart}
 use Rattle.image.specs.Fields.{one}
 use Rattle.image.specs.Format.{head_at, is_a, size_at}
 use Rattle.image.specs.Layout.{frame_up, begins, takes, filled, place}
@@ -52,7 +52,7 @@ few_from bs (suc k) o u s h =
     let r = few_from bs k (suc o) (begins bs o u + takes bs o) (s + (takes bs o + 63) / 64) f in
     omega (arith, r)
 
-lies : (bs : List ℕ) → Laid_out bs
+lies : (bs : List ℕ) → LaidOut bs
 lies bs =
     record {
       apart = λ o p l. let h = ends_before bs o p l in let g = begins_up bs p (filled bs p 0 0) in omega (arith, h, g);

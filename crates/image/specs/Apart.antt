@@ -13,7 +13,7 @@ own_frames bs zero o = 0
 own_frames bs (suc k) o = (takes bs o + 63) / 64 + own_frames bs k (suc o)
 
 -- the layout of any bytes, whether they are taken or not
-pub record Laid_out (bs : List ℕ) : Type 0 where
+pub record LaidOut (bs : List ℕ) : Type 0 where
   -- an object ends before the next begins, so two share no byte
   pub apart : (o p : ℕ) → o < p → place bs o + takes bs o ≤ place bs p
   -- objects lie within the frames that are asked for
@@ -43,4 +43,4 @@ AsCut =
     (64 * takes bs o ≡ world.cost board_sizes w) × (64 * begins bs o u ≡ world.up_to (world.step_of board_sizes w) (64 * u))
 
 abbrev pub LiesApart : Type 0
-LiesApart = ((bs : List ℕ) → Laid_out bs) × AsCut
+LiesApart = ((bs : List ℕ) → LaidOut bs) × AsCut

@@ -34,8 +34,8 @@ DecidedEarly =
     SameBelow (field_end (two bs 4) e) bs cs → verdict ks others cs ≡ Err e
 
 -- and one that says that bytes go on, only on the bytes before the first too many and on that there is one
-abbrev pub Goes_on : Type 0
-Goes_on =
+abbrev pub GoesOn : Type 0
+GoesOn =
     (ks : Kinds) (frames others p : ℕ) (bs cs : List ℕ) → verdict ks frames bs ≡ Err (Length p) → p < length bs → p < length cs →
     SameBelow p bs cs → verdict ks others cs ≡ Err (Length p)
 

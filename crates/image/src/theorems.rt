@@ -2,7 +2,7 @@
 ghost use Rattle.image.specs.Allowed.{Holds, MeansAllowed};
 ghost use Rattle.image.specs.Apart.{LiesApart};
 ghost use Rattle.image.specs.Instances.{Instances};
-ghost use Rattle.image.specs.Prefix.{DecidedEarly, Goes_on, LengthByHeaders, OneLength, LimitHolds, NeverTaken, FaultsTold, EventsLimitHolds, EventFaultsTold};
+ghost use Rattle.image.specs.Prefix.{DecidedEarly, GoesOn, LengthByHeaders, OneLength, LimitHolds, NeverTaken, FaultsTold, EventsLimitHolds, EventFaultsTold};
 ghost use Rattle.image.specs.Rows.{RowsNamed};
 
 // Objects lie apart in the frames, and within as many as are asked for, which are no more than
@@ -18,7 +18,7 @@ pub fn decided_early()
 
 // That bytes go on depends only on the bytes before the first too many.
 pub fn goes_on()
-    ensures { Goes_on }
+    ensures { GoesOn }
 {}
 
 // An image that is taken is as long as its headers say.

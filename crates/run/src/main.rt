@@ -4,6 +4,7 @@
 use anyhow::anyhow;
 use image::{Inputs, Unreadable};
 use std::env;
+use std::process::ExitCode;
 
 fn run(rt: &HostRuntime) -> anyhow::Result<()> {
     let mut args = env::args(rt)?.skip(1);
@@ -27,10 +28,10 @@ fn run(rt: &HostRuntime) -> anyhow::Result<()> {
     }
 }
 
-fn main(rt: HostRuntime) -> anyhow::Result<()> {
-    let result = run(&rt);
-    if let Err(e) = &result {
+fn main(rt: HostRuntime) -> ExitCode {
+    if let Err(e) = run(&rt) {
         let _ = eprintln!(rt; "run: {e}");
+        return ExitCode::FAILURE;
     }
-    result
+    ExitCode::SUCCESS
 }
