@@ -17,7 +17,7 @@ pub fn head_at(o: u16) -> usize
 pub fn is_a(image: &[u8], o: u16, kind: Kind) -> bool
     ensures { result ≡ format.is_a image.now o kind }
 {
-    one(image, head_at(o)) == kind.number()
+    one(image, head_at(o)) == u8::from(kind)
 }
 
 // The size of object `o`, by its header.
@@ -80,7 +80,7 @@ fn right_size(kind: Kind, size: u16) -> bool
 fn kind_at(kinds: Kinds, image: &[u8], at: usize) -> Option<Kind>
     ensures { result ≡ format.kind_at kinds image.now at }
 {
-    let kind = Kind::from_number(one(image, at))?;
+    let kind = Kind::try_from(one(image, at)).ok()?;
     if kinds.lets_in(kind) {
         Some(kind)
     } else {

@@ -78,7 +78,7 @@ impl ImageBuilder {
     pub fn header(&mut self, kind: Kind, size: u16)
         ensures { vec_len self.old.bytes ≤ vec_len self.new.bytes }
     {
-        self.byte(kind.number());
+        self.byte(u8::from(kind));
         self.two(size);
     }
 

@@ -1,9 +1,12 @@
 -- The numbers of kinds, rights, refusals and answers. Assumes nothing: these are definitions.
-use Rattle.std.specs.Prelude.{ℕ, Bool, true, cond, not, List, [], ◌∷◌, ◌++◌, length, Some, None, codes, decimal, Option, ◌==◌, bit_and, nat_le, nat_lt, slice_index}
+use Rattle.std.specs.Prelude.{ℕ, Bool, true, cond, not, List, [], ◌∷◌, ◌++◌, length, Some, None, codes, decimal, Option, Result, ◌==◌, bit_and, nat_le, nat_lt, slice_index}
+use Rattle.std.specs.Option.{ok_or}
 use Rattle.rights.specs.declared.answers.Answer.{Answer}
 use Rattle.rights.specs.declared.answers.Answer.TheVariants.{No, Done, Heard, Received}
 use Rattle.rights.specs.declared.bits.Rights.{Rights}
+use Rattle.rights.specs.declared.bits.UnknownRights.{UnknownRights}
 use Rattle.rights.specs.declared.kinds.Kind.{Kind}
+use Rattle.rights.specs.declared.kinds.UnknownKind.{UnknownKind}
 use Rattle.rights.specs.declared.kinds.Kind.TheVariants.{Pool, Table, Port, Page, Thread, Line}
 use Rattle.rights.specs.declared.refusals.Refusal.{Refusal}
 use Rattle.rights.specs.declared.refusals.Refusal.TheVariants.{Length, Magic, Value, Name, Frames, Event}
@@ -24,6 +27,14 @@ kind_from n =
     cond (n == 0) (Some Pool) (cond (n == 1) (Some Table) (cond (n == 2) (Some Port)
     (cond (n == 3) (Some Page) (cond (n == 4) (Some Thread) (cond (n == 5) (Some Line) None)))))
 
+-- the same, or the number that is no kind's
+abbrev pub kind_or : ℕ → Result Kind UnknownKind
+kind_or n = ok_or (kind_from n) (record { number = n })
+
+-- what is printed of it
+abbrev pub unknown_kind_text : UnknownKind → List ℕ
+unknown_kind_text e = codes "no kind of object has number " ++ decimal e.number
+
 -- whether a bit is among some bits
 abbrev pub has : ℕ → ℕ → Bool
 has bits bit = not (bit_and bits bit == 0)
@@ -39,6 +50,14 @@ rights_of r = rights_of_bits r.bits
 -- the rights with some bits; none above 7
 abbrev pub rights_from : ℕ → Option Rights
 rights_from n = cond (nat_le n 7) (Some (record { bits = n })) None
+
+-- the same, or the bits that are no rights
+abbrev pub rights_or : ℕ → Result Rights UnknownRights
+rights_or n = ok_or (rights_from n) (record { bits = n })
+
+-- what is printed of them
+abbrev pub unknown_rights_text : UnknownRights → List ℕ
+unknown_rights_text e = codes "there are no rights with bits " ++ decimal e.bits
 
 -- the rights in both, and all three
 abbrev pub met : Rights → Rights → Rights

@@ -1,7 +1,10 @@
 // Rights as bits: 1 to read, 2 to write or send, 4 to hand on.
-ghost use Rattle.std.specs.Prelude.{◌≡◌};
+ghost use Rattle.std.specs.Prelude.{◌≡◌, Some};
 ghost use Rattle.rights.specs.Vocabulary as spec;
 ghost use Rattle.rights.specs.World as world;
+
+use std::error::Error;
+use std::fmt;
 
 const READ: u8 = 1;
 
@@ -9,22 +12,50 @@ const WRITE: u8 = 2;
 
 const HAND_ON: u8 = 4;
 
-#[derive(Clone, Copy)]
+#[derive(Clone, Copy, Debug, PartialEq, Eq)]
 pub struct Rights {
     bits: u8,
 }
 
-impl Rights {
-    // The rights with these bits; none where a bit above the three is set.
-    pub fn from_bits(bits: u32) -> Option<Rights>
-        ensures { result ≡ spec.rights_from bits }
-    {
-        if bits > 7 {
-            return None;
-        }
-        Some(Rights { bits: bits as u8 })
-    }
+// A number with a bit above the three.
+#[derive(Clone, Copy, Debug, PartialEq, Eq)]
+pub struct UnknownRights {
+    pub bits: u32,
+}
 
+impl TryFrom<u32> for Rights {
+    type Error = UnknownRights;
+
+    ghost try_from_gives = { λ n r. r ≡ spec.rights_or n };
+
+    fn try_from(bits: u32) -> Result<Rights, UnknownRights> {
+        if bits > 7 {
+            return Err(UnknownRights { bits });
+        }
+        Ok(Rights { bits: bits as u8 })
+    }
+}
+
+impl From<Rights> for u8 {
+    ghost from_gives = { λ r n. n ≡ r.bits };
+
+    fn from(rights: Rights) -> u8 {
+        rights.bits
+    }
+}
+
+impl fmt::Display for UnknownRights {
+    ghost output = { λ e. Some (spec.unknown_rights_text e) };
+
+    fn fmt<W: fmt::Write>(&self, f: &mut fmt::Formatter<W>) -> fmt::Result {
+        let bits = self.bits;
+        write!(f, "there are no rights with bits {bits}")
+    }
+}
+
+impl Error for UnknownRights {}
+
+impl Rights {
     // All three.
     pub fn all() -> Rights
         ensures value { result ≡ spec.all_three }
@@ -33,12 +64,6 @@ impl Rights {
         Rights {
             bits: READ | WRITE | HAND_ON,
         }
-    }
-
-    pub fn bits(self) -> u8
-        ensures { result ≡ self.bits }
-    {
-        self.bits
     }
 
     pub fn reads(self) -> bool

@@ -5,7 +5,7 @@ ghost use Rattle.rights.specs.Request as spec;
 use crate::bits::Rights;
 
 // What is to be cut: its kind, and its size where it has one.
-#[derive(Clone, Copy)]
+#[derive(Clone, Copy, Debug, PartialEq, Eq)]
 pub enum NewObject {
     Pool(u32),
     Table(u32),
@@ -14,7 +14,8 @@ pub enum NewObject {
 }
 
 impl NewObject {
-    // A pool or a table has a size of 1 to 4,096; a port or a page has size 0.
+    // A pool or a table has a size of 1 to 4,096; a port or a page has size 0. Two numbers ask for
+    // it, of 32 bits each, so it is neither a TryFrom of one nor of a Kind's byte.
     pub fn decode(kind: u32, size: u32) -> Option<NewObject>
         ensures { result ≡ spec.new_object kind size }
     {
@@ -29,7 +30,7 @@ impl NewObject {
 }
 
 // Slots are numbers in the caller's own table.
-#[derive(Clone, Copy)]
+#[derive(Clone, Copy, Debug, PartialEq, Eq)]
 pub enum Call {
     Cut {
         pool: u32,
@@ -103,7 +104,7 @@ impl Call {
             1 => Some(Call::Copy {
                 from: a,
                 into: b,
-                rights: Rights::from_bits(c)?,
+                rights: Rights::try_from(c).ok()?,
                 badge: d,
             }),
             2 => Some(Call::Move { from: a, into: b }),

@@ -1,8 +1,11 @@
 // Kinds of objects and their numbers.
-ghost use Rattle.std.specs.Prelude.{◌≡◌};
+ghost use Rattle.std.specs.Prelude.{◌≡◌, Some};
 ghost use Rattle.rights.specs.Vocabulary as spec;
 
-#[derive(Clone, Copy)]
+use std::error::Error;
+use std::fmt;
+
+#[derive(Clone, Copy, Debug, PartialEq, Eq)]
 pub enum Kind {
     Pool,
     Table,
@@ -12,11 +15,17 @@ pub enum Kind {
     Line,
 }
 
-impl Kind {
-    pub fn number(self) -> u8
-        ensures { result ≡ spec.kind_number self }
-    {
-        match self {
+// A number that is no kind's.
+#[derive(Clone, Copy, Debug, PartialEq, Eq)]
+pub struct UnknownKind {
+    pub number: u8,
+}
+
+impl From<Kind> for u8 {
+    ghost from_gives = { λ kind n. n ≡ spec.kind_number kind };
+
+    fn from(kind: Kind) -> u8 {
+        match kind {
             Kind::Pool => 0,
             Kind::Table => 1,
             Kind::Port => 2,
@@ -25,19 +34,33 @@ impl Kind {
             Kind::Line => 5,
         }
     }
+}
 
-    // The kind with a number, if there is one.
-    pub fn from_number(number: u8) -> Option<Kind>
-        ensures { result ≡ spec.kind_from number }
-    {
+impl TryFrom<u8> for Kind {
+    type Error = UnknownKind;
+
+    ghost try_from_gives = { λ n r. r ≡ spec.kind_or n };
+
+    fn try_from(number: u8) -> Result<Kind, UnknownKind> {
         match number {
-            0 => Some(Kind::Pool),
-            1 => Some(Kind::Table),
-            2 => Some(Kind::Port),
-            3 => Some(Kind::Page),
-            4 => Some(Kind::Thread),
-            5 => Some(Kind::Line),
-            _ => None,
+            0 => Ok(Kind::Pool),
+            1 => Ok(Kind::Table),
+            2 => Ok(Kind::Port),
+            3 => Ok(Kind::Page),
+            4 => Ok(Kind::Thread),
+            5 => Ok(Kind::Line),
+            _ => Err(UnknownKind { number }),
         }
     }
 }
+
+impl fmt::Display for UnknownKind {
+    ghost output = { λ e. Some (spec.unknown_kind_text e) };
+
+    fn fmt<W: fmt::Write>(&self, f: &mut fmt::Formatter<W>) -> fmt::Result {
+        let number = self.number;
+        write!(f, "no kind of object has number {number}")
+    }
+}
+
+impl Error for UnknownKind {}

@@ -9,7 +9,7 @@ mod kinds;
 mod refusals;
 
 pub use answers::Answer;
-pub use bits::Rights;
+pub use bits::{Rights, UnknownRights};
 pub use calls::{Call, NewObject};
-pub use kinds::Kind;
+pub use kinds::{Kind, UnknownKind};
 pub use refusals::Refusal;

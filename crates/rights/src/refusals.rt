@@ -2,9 +2,10 @@
 ghost use Rattle.std.specs.Prelude.{◌≡◌, Some};
 ghost use Rattle.rights.specs.Vocabulary as spec;
 
+use std::error::Error;
 use std::fmt;
 
-#[derive(Clone, Copy)]
+#[derive(Clone, Copy, Debug, PartialEq, Eq)]
 pub enum Refusal {
     // Bytes end too early, or go on: the length, or the first byte too many.
     Length(usize),
@@ -21,7 +22,7 @@ pub enum Refusal {
 }
 
 impl Refusal {
-    // The number that is told.
+    // The number that is told. The place is told with it, so this is no conversion to a number.
     pub fn number(self) -> u8
         ensures { result ≡ spec.refusal_number self }
     {
@@ -56,3 +57,5 @@ impl fmt::Display for Refusal {
         write!(f, "refused {number} at {place}")
     }
 }
+
+impl Error for Refusal {}

@@ -1,6 +1,6 @@
 use Rattle.std.proofs.Common.{refl}
 use Rattle.rights.specs.World.{meet}
-use Rattle.rights.proofs.Lowest.{has_both_1, has_both_2, has_both_4}
+use Rattle.rights.proofs.Lowest.{has_both}
 use Rattle.rights.proofs.bits.Rights.meet.Goals as goal
 
 pub returns : goal.returns
@@ -8,4 +8,4 @@ unfolding meet
 returns c =
     let a = c.args.self.bits in
     let b = c.args.other.bits in
-    record { value = refl; meaning = simp (has_both_1 a b, has_both_2 a b, has_both_4 a b) }
+    record { value = refl; meaning = simp (has_both 0 a b, has_both 1 a b, has_both 2 a b) }
