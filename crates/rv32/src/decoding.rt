@@ -1,5 +1,7 @@
 // From a word of 32 bits to its instruction.
 ghost use Rattle.std.specs.Prelude.{◌≡◌, ◌+◌, ◌*◌, ◌/◌, ◌%◌, ◌^◌, ◌<◌, ◌≤◌};
+ghost use Rattle.std.specs.Option.{unwrap_or};
+ghost use Rattle.rv32.specs.declared.forms.Instruction.TheVariants.{Illegal};
 ghost use Rattle.rv32.specs.Decode as spec;
 ghost use Rattle.rv32.specs.Formats as format;
 
@@ -67,6 +69,7 @@ fn j_immediate(word: u32) -> i32
     extended(joined(middle, 10, field(word, 21, 10)) << 1, 0x10_0000)
 }
 
+// What funct3 and funct7 mean depends on the opcode, so these are tables and no TryFrom of a number.
 fn comparison(funct3: u32) -> Option<Comparison>
     ensures { result ≡ spec.comparison funct3 }
 {
@@ -141,99 +144,86 @@ fn operation(funct7: u32, funct3: u32) -> Option<Operation>
     }
 }
 
-fn system(word: u32) -> Instruction
-    ensures { result ≡ spec.system word }
+fn system(word: u32) -> Option<Instruction>
+    ensures { unwrap_or result Illegal ≡ spec.system word }
 {
     match word {
-        0x0000_0073 => Instruction::Ecall,
-        0x0010_0073 => Instruction::Ebreak,
-        _ => Instruction::Illegal,
+        0x0000_0073 => Some(Instruction::Ecall),
+        0x0010_0073 => Some(Instruction::Ebreak),
+        _ => None,
     }
 }
 
-pub fn decode(word: u32) -> Instruction
-    ensures { result ≡ spec.decode word }
+// The instruction that a word is; none where a table has no such row.
+fn known(word: u32) -> Option<Instruction>
+    ensures { unwrap_or result Illegal ≡ spec.decode word }
 {
     let rd = field(word, 7, 5) as u8;
     let funct3 = field(word, 12, 3);
     let rs1 = field(word, 15, 5) as u8;
     let rs2 = field(word, 20, 5) as u8;
     let funct7 = field(word, 25, 7);
-    match field(word, 0, 7) {
-        0x37 => Instruction::Lui {
+    let instruction = match (field(word, 0, 7), funct3) {
+        (0x37, _) => Instruction::Lui {
             rd,
             immediate: u_immediate(word),
         },
-        0x17 => Instruction::Auipc {
+        (0x17, _) => Instruction::Auipc {
             rd,
             immediate: u_immediate(word),
         },
-        0x6f => Instruction::Jal {
+        (0x6f, _) => Instruction::Jal {
             rd,
             offset: j_immediate(word),
         },
-        0x67 => match funct3 {
-            0 => Instruction::Jalr {
-                rd,
-                rs1,
-                offset: i_immediate(word),
-            },
-            _ => Instruction::Illegal,
+        (0x67, 0) => Instruction::Jalr {
+            rd,
+            rs1,
+            offset: i_immediate(word),
         },
-        0x63 => match comparison(funct3) {
-            Some(when) => Instruction::Branch {
-                when,
-                rs1,
-                rs2,
-                offset: b_immediate(word),
-            },
-            None => Instruction::Illegal,
+        (0x63, _) => Instruction::Branch {
+            when: comparison(funct3)?,
+            rs1,
+            rs2,
+            offset: b_immediate(word),
         },
-        0x03 => match loading(funct3) {
-            Some(what) => Instruction::Load {
-                what,
-                rd,
-                rs1,
-                offset: i_immediate(word),
-            },
-            None => Instruction::Illegal,
+        (0x03, _) => Instruction::Load {
+            what: loading(funct3)?,
+            rd,
+            rs1,
+            offset: i_immediate(word),
         },
-        0x23 => match width_of(funct3) {
-            Some(width) => Instruction::Store {
-                width,
-                rs1,
-                rs2,
-                offset: s_immediate(word),
-            },
-            None => Instruction::Illegal,
+        (0x23, _) => Instruction::Store {
+            width: width_of(funct3)?,
+            rs1,
+            rs2,
+            offset: s_immediate(word),
         },
-        0x13 => match immediate_operation(funct7, funct3) {
-            Some(operation) => Instruction::OpImm {
-                operation,
-                rd,
-                rs1,
-                immediate: i_immediate(word),
-            },
-            None => Instruction::Illegal,
+        (0x13, _) => Instruction::OpImm {
+            operation: immediate_operation(funct7, funct3)?,
+            rd,
+            rs1,
+            immediate: i_immediate(word),
         },
-        0x33 => match operation(funct7, funct3) {
-            Some(operation) => Instruction::Op {
-                operation,
-                rd,
-                rs1,
-                rs2,
-            },
-            None => Instruction::Illegal,
+        (0x33, _) => Instruction::Op {
+            operation: operation(funct7, funct3)?,
+            rd,
+            rs1,
+            rs2,
         },
-        0x0f => match funct3 {
-            0 => Instruction::Fence {
-                rd,
-                rs1,
-                ordering: (word >> 20) as u16,
-            },
-            _ => Instruction::Illegal,
+        (0x0f, 0) => Instruction::Fence {
+            rd,
+            rs1,
+            ordering: (word >> 20) as u16,
         },
-        0x73 => system(word),
-        _ => Instruction::Illegal,
-    }
+        (0x73, _) => system(word)?,
+        _ => return None,
+    };
+    Some(instruction)
+}
+
+pub fn decode(word: u32) -> Instruction
+    ensures { result ≡ spec.decode word }
+{
+    known(word).unwrap_or(Instruction::Illegal)
 }

@@ -3,7 +3,7 @@ ghost use Rattle.std.specs.Prelude.{◌≡◌};
 ghost use Rattle.rv32.specs.Execute as spec;
 
 // What OP and OP-IMM compute.
-#[derive(Clone, Copy)]
+#[derive(Clone, Copy, Debug, PartialEq, Eq)]
 pub enum Operation {
     Add,
     Sub,
@@ -18,7 +18,7 @@ pub enum Operation {
 }
 
 // When a branch is taken.
-#[derive(Clone, Copy)]
+#[derive(Clone, Copy, Debug, PartialEq, Eq)]
 pub enum Comparison {
     Eq,
     Ne,
@@ -29,7 +29,7 @@ pub enum Comparison {
 }
 
 // What a load reads, and how it is extended.
-#[derive(Clone, Copy)]
+#[derive(Clone, Copy, Debug, PartialEq, Eq)]
 pub enum Loading {
     Lb,
     Lh,
@@ -39,7 +39,7 @@ pub enum Loading {
 }
 
 // How much a store writes.
-#[derive(Clone, Copy)]
+#[derive(Clone, Copy, Debug, PartialEq, Eq)]
 pub enum Width {
     Byte,
     Half,
@@ -60,7 +60,7 @@ impl Width {
 }
 
 // FENCE has its fields fm, pred and succ as one number of 12 bits.
-#[derive(Clone, Copy)]
+#[derive(Clone, Copy, Debug, PartialEq, Eq)]
 pub enum Instruction {
     Lui {
         rd: u8,

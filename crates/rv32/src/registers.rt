@@ -5,7 +5,7 @@ ghost use Rattle.rv32.specs.Registers as spec;
 
 use rights::Answer;
 
-#[derive(Clone, Copy)]
+#[derive(Clone, Copy, Debug, PartialEq, Eq)]
 pub struct Cpu {
     pub pc: u32,
     pub registers: [u32; 32],

@@ -10,7 +10,7 @@ use crate::registers::Cpu;
 use rights::{Answer, Call};
 
 // What an instruction asks for. `Cpu` has the functions that carry it out.
-#[derive(Clone, Copy)]
+#[derive(Clone, Copy, Debug, PartialEq, Eq)]
 pub enum Step {
     // A register gets a value, and the next instruction is at a pc: go_on.
     Next {
