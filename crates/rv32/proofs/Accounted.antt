@@ -1,5 +1,6 @@
 -- Each word is the word of the instruction that it is read as, or of none.
 use Rattle.std.proofs.Common.{◌≡◌, ℕ, suc, ◌+◌, ◌-◌, ◌*◌, ◌/◌, ◌%◌, ◌^◌, ◌<◌, ◌≤◌, eqb, ltb, ◌⊎◌, List, [], ◌∷◌, ℤ, pos, negsuc, ◌-ℤ◌, Some, None, Option, sym, refl, ap, ◌∙◌, subst, inl, inr, arith, lit<, w32}
+use Rattle.std.proofs.lemmas.Nat.{mod-mul-add}
 use Rattle.std.proofs.lemmas.Int.{ints, of_z-to_z}
 use Rattle.std.proofs.lemmas.Bool.{cond_both, eqb-true, ltb-true, ltb-false}
 use Rattle.std.specs.List.{AllByRecursion}
@@ -48,17 +49,10 @@ extended s v h q =
     let k : pos v -ℤ pos (2 * s) ≡ negsuc (2 * s - v - 1) = omega (arith, ints) in
     rw k record { fits = omega arith; same = inr (omega arith); low = λ l. absurd (omega arith) })
 
-mod_12 : (u v : ℕ) → v < 2 ^ 12 → ((u ≡ v) ⊎ (u + 2 * 2 ^ 11 ≡ v + 2 ^ 32)) → u % 2 ^ 12 ≡ v
-mod_12 u v h (inl e) = omega arith
-mod_12 u v h (inr e) = omega arith
-
-mod_13 : (u v : ℕ) → v < 2 ^ 13 → ((u ≡ v) ⊎ (u + 2 * 2 ^ 12 ≡ v + 2 ^ 32)) → u % 2 ^ 13 ≡ v
-mod_13 u v h (inl e) = omega arith
-mod_13 u v h (inr e) = omega arith
-
-mod_21 : (u v : ℕ) → v < 2 ^ 21 → ((u ≡ v) ⊎ (u + 2 * 2 ^ 20 ≡ v + 2 ^ 32)) → u % 2 ^ 21 ≡ v
-mod_21 u v h (inl e) = omega arith
-mod_21 u v h (inr e) = omega arith
+-- a number of k bits, or that less 2 ^ k as a word of 32
+mod_bits : (k r u v : ℕ) → v < 2 ^ k → 2 ^ 32 ≡ (r + 1) * 2 ^ k → ((u ≡ v) ⊎ (u + 2 ^ k ≡ v + 2 ^ 32)) → u % 2 ^ k ≡ v
+mod_bits k r u v h q (inl e) = let f : u ≡ 0 * 2 ^ k + v = omega arith in rw f (mod-mul-add 0 (2 ^ k) v h)
+mod_bits k r u v h q (inr e) = let f : u ≡ r * 2 ^ k + v = omega arith in rw f (mod-mul-add r (2 ^ k) v h)
 
 -- either the word of a legal instruction, or none
 abbrev pub Told : ℕ → Instruction → Type 0
@@ -73,7 +67,7 @@ record IsI (w : ℕ) : Type 0 where
 is_i : (w : ℕ) → IsI w
 is_i w =
     let x = extended (2 ^ 11) (bits w 31 20) (omega arith) (lit< tt) in
-    let m : unsigned (imm_i w) % 2 ^ 12 ≡ bits w 31 20 = mod_12 (unsigned (imm_i w)) (bits w 31 20) (omega arith) x.same in
+    let m : unsigned (imm_i w) % 2 ^ 12 ≡ bits w 31 20 = mod_bits 12 (2 ^ 20 - 1) (unsigned (imm_i w)) (bits w 31 20) (omega arith) refl x.same in
     record { fits = x.fits; high = omega arith; low = omega arith }
 
 told_jalr : (w : ℕ) → w < 2 ^ 32 → opcode w ≡ 0x67 → funct3 w ≡ 0 → Told w (Jalr (rd w) (rs1 w) (imm_i w))
@@ -115,7 +109,7 @@ told_store : (w : ℕ) (t : Width) → w < 2 ^ 32 → opcode w ≡ 0x23 → func
 told_store w t h op f3 =
     let v = bits w 31 25 * 2 ^ 5 + bits w 11 7 in
     let x = extended (2 ^ 11) v (omega arith) (lit< tt) in
-    let m : unsigned (imm_s w) % 2 ^ 12 ≡ v = mod_12 (unsigned (imm_s w)) v (omega arith) x.same in
+    let m : unsigned (imm_s w) % 2 ^ 12 ≡ v = mod_bits 12 (2 ^ 20 - 1) (unsigned (imm_s w)) v (omega arith) refl x.same in
     let p : bits (unsigned (imm_s w)) 11 5 ≡ funct7 w = omega arith in
     let q : bits (unsigned (imm_s w)) 4 0 ≡ rd w = omega arith in
     inl ((omega arith, omega arith, x.fits), made_of w _ _ _ _ _ _ h p refl refl (sym f3) q (sym op))
@@ -153,7 +147,7 @@ told_branch w t h op f3 =
     let b : v < 2 ^ 13 = sum_b_small (bits w 31 31) (bits w 7 7) (bits w 30 25) (bits w 11 8) (omega arith) (omega arith) (omega arith) (omega arith) in
     let x = extended (2 ^ 12) v b (lit< tt) in
     let u = unsigned (imm_b w) in
-    let k = parts_b u (bits w 31 31) (bits w 7 7) (bits w 30 25) (bits w 11 8) (omega arith) (omega arith) (omega arith) (omega arith) (mod_13 u v b x.same) in
+    let k = parts_b u (bits w 31 31) (bits w 7 7) (bits w 30 25) (bits w 11 8) (omega arith) (omega arith) (omega arith) (omega arith) (mod_bits 13 (2 ^ 19 - 1) u v b refl x.same) in
     let p : bits u 12 12 * 2 ^ 6 + bits u 10 5 ≡ funct7 w = simp (k.a_is, k.c_is) (top_whole w) in
     let q : bits u 4 1 * 2 + bits u 11 11 ≡ rd w = simp (k.d_is, k.b_is) (rd_whole w) in
     inl ((omega arith, omega arith, x.fits, k.even), made_of w _ _ _ _ _ _ h p refl refl (sym f3) q (sym op))
@@ -189,7 +183,7 @@ told_jal w h op =
     let b : v < 2 ^ 21 = sum_j_small (bits w 31 31) (bits w 19 12) (bits w 20 20) (bits w 30 21) (omega arith) (omega arith) (omega arith) (omega arith) in
     let x = extended (2 ^ 20) v b (lit< tt) in
     let u = unsigned (imm_j w) in
-    let k = parts_j u (bits w 31 31) (bits w 19 12) (bits w 20 20) (bits w 30 21) (omega arith) (omega arith) (omega arith) (omega arith) (mod_21 u v b x.same) in
+    let k = parts_j u (bits w 31 31) (bits w 19 12) (bits w 20 20) (bits w 30 21) (omega arith) (omega arith) (omega arith) (omega arith) (mod_bits 21 (2 ^ 11 - 1) u v b refl x.same) in
     let p : bits u 20 20 * 2 ^ 6 + bits u 10 5 ≡ funct7 w = simp (k.a_is, k.top_is) (top_whole_j w) in
     let q : bits u 4 1 * 2 + bits u 11 11 ≡ rs2 w = simp (k.rest_is, k.c_is) (rs2_whole w) in
     let r : bits u 19 15 ≡ rs1 w = k.high_is ∙ omega arith in

@@ -1,5 +1,5 @@
 -- For what implements Memory: what is read where bytes are, and where one is not.
-use Rattle.std.proofs.Common.{◌≡◌, ℕ, zero, suc, ◌+◌, ◌*◌, ◌%◌, ◌<◌, false, not, eqb, Some, None, Option, sym, refl, ap, ◌∙◌, add-zero, arith}
+use Rattle.std.proofs.Common.{◌≡◌, ℕ, zero, suc, ◌+◌, ◌*◌, ◌%◌, ◌<◌, Bool, true, false, cond, not, ◌&&◌, eqb, Some, None, Option, sym, refl, ap, ◌∙◌, add-zero, arith}
 use Rattle.std.proofs.lemmas.Bool.{ne_eqb, eq-eqb, and_left, and_right, cond_both, cond-true, cond-false}
 use Rattle.rv32.specs.Execute.{number, there, little, read, aligned}
 
@@ -43,15 +43,34 @@ aligned_2 m a b c z e f h k =
     let f' : c ≡ m (suc a) = f ∙ ap m (omega arith) in
     whole m a 2 (b + 256 * c) z (simp (byte_there b (m a) e h, byte_there c (m (suc a)) f' k) (ap Some (omega arith)))
 
-pub aligned_4 : (m : ℕ → ℕ) (a b c d e : ℕ) → a % 4 ≡ 0 → b ≡ m a → c ≡ m (a + 1) → d ≡ m (a + 2) → e ≡ m (a + 3) → b < 256 → c < 256 → d < 256 → e < 256 →
-    Some (b + 256 * (c + 256 * (d + 256 * e))) ≡ aligned m a 4
+-- a word is two half words
+abbrev pub both : Option ℕ → Option ℕ → Option ℕ
+both None y = None
+both (Some a) None = None
+both (Some a) (Some b) = Some (a + 65536 * b)
+
+both_there : (p q r s : Bool) (a b : ℕ) →
+    cond (p && (q && (r && (s && true)))) (Some (a + 65536 * b)) None ≡ both (cond (p && (q && true)) (Some a) None) (cond (r && (s && true)) (Some b) None)
+both_there false q r s a b = refl
+both_there true false r s a b = refl
+both_there true true false s a b = refl
+both_there true true true false a b = refl
+both_there true true true true a b = refl
+
+halves_from : (m : ℕ → ℕ) (a : ℕ) → a % 4 ≡ 0 → both (aligned m a 2) (aligned m (suc (suc a)) 2) ≡ aligned m a 4
 unfolding there little read
-aligned_4 m a b c d e z p q r s h i j k =
-    let q' : c ≡ m (suc a) = q ∙ ap m (omega arith) in
-    let r' : d ≡ m (suc (suc a)) = r ∙ ap m (omega arith) in
-    let s' : e ≡ m (suc (suc (suc a))) = s ∙ ap m (omega arith) in
-    whole m a 4 (b + 256 * (c + 256 * (d + 256 * e))) z
-    (simp (byte_there b (m a) p h, byte_there c (m (suc a)) q' i, byte_there d (m (suc (suc a))) r' j, byte_there e (m (suc (suc (suc a)))) s' k) (ap Some (omega arith)))
+halves_from m a z =
+    let there : ℕ → Bool = λ k. not (eqb (m k) 256) in
+    let p = there a in
+    let q = there (suc a) in
+    let r = there (suc (suc a)) in
+    let s = there (suc (suc (suc a))) in
+    simp (eq-eqb (a % 4) 0 z, eq-eqb (a % 2) 0 (omega arith), eq-eqb (suc (suc a) % 2) 0 (omega arith))
+    (sym (both_there p q r s (m a + 256 * (m (suc a) + 0)) (m (suc (suc a)) + 256 * (m (suc (suc (suc a))) + 0)))
+    ∙ ap (λ (v : ℕ). cond (p && (q && (r && (s && true)))) (Some v) None) (omega arith))
+
+pub halves : (m : ℕ → ℕ) (a : ℕ) → a % 4 ≡ 0 → both (aligned m a 2) (aligned m (a + 2) 2) ≡ aligned m a 4
+halves m a z = let e : a + 2 ≡ suc (suc a) = omega arith in rw e (halves_from m a z)
 
 -- one byte, as `byte` answers it
 abbrev pub Small : Option ℕ → Type 0

@@ -29,11 +29,9 @@ pub trait Memory {
         if address % 4 != 0 {
             return None;
         }
-        let a = self.byte(address)?;
-        let b = self.byte(address + 1)?;
-        let c = self.byte(address + 2)?;
-        let d = self.byte(address + 3)?;
-        Some(u32::from_le_bytes([a, b, c, d]))
+        let low = self.half(address)?;
+        let high = self.half(address + 2)?;
+        Some(u32::from(high) << 16 | u32::from(low))
     }
 }
 
