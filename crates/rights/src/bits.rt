@@ -66,6 +66,8 @@ impl Rights {
         }
     }
 
+    // A name for each right: one test that takes the right as an argument is no plainer where it is
+    // used.
     pub fn reads(self) -> bool
         ensures { result ≡ (spec.rights_of self).reads }
     {
