@@ -12,6 +12,8 @@ const WRITE: u8 = 2;
 
 const HAND_ON: u8 = 4;
 
+// No `bitflags!`: its `contains` and `intersection` say no more than the methods here, and the
+// definitions name this struct.
 #[derive(Clone, Copy, Debug, PartialEq, Eq)]
 pub struct Rights {
     bits: u8,

@@ -90,7 +90,8 @@ pub enum Call {
 
 impl Call {
     // The call that a number and six arguments ask for; none where there is no such call, or where
-    // its kind, size or rights are not right.
+    // its kind, size or rights are not right. Calls are numbers here, since the format gives them, and
+    // stand at one place: an enum of them would name each once more.
     pub fn decode(number: u32, arguments: [u32; 6]) -> Option<Call>
         ensures { result ≡ spec.asked number arguments }
     {

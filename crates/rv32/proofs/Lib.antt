@@ -1,4 +1,5 @@
 pub mod Reading
+pub mod Putting
 mod Encoded
 mod Accounted
 mod Kept

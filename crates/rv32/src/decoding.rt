@@ -69,7 +69,8 @@ fn j_immediate(word: u32) -> i32
     extended(joined(middle, 10, field(word, 21, 10)) << 1, 0x10_0000)
 }
 
-// What funct3 and funct7 mean depends on the opcode, so these are tables and no TryFrom of a number.
+// Tables and no TryFrom of a number: funct3 and funct7 are codes within one opcode, whoever reads the
+// tables wants them side by side, and a TryFrom's error would be read by nobody.
 fn comparison(funct3: u32) -> Option<Comparison>
     ensures { result ≡ spec.comparison funct3 }
 {
@@ -155,6 +156,7 @@ fn system(word: u32) -> Option<Instruction>
 }
 
 // The instruction that a word is; none where a table has no such row.
+// Opcodes are numbers here, since the format gives them: an enum would only name each of them once.
 fn known(word: u32) -> Option<Instruction>
     ensures { unwrap_or result Illegal ≡ spec.decode word }
 {

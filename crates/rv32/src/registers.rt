@@ -36,7 +36,7 @@ impl Cpu {
     pub fn put(&mut self, number: u8, value: u32)
         ensures { self.new ≡ spec.put self.old number value }
     {
-        if number > 0 && number < 32 {
+        if let 1..=31 = number {
             self.registers[number as usize] = value;
         }
     }
@@ -56,25 +56,26 @@ impl Cpu {
         self.pc = pc;
     }
 
+    // Up to six words go into x10 to x15; more would be left out.
+    fn put_words(&mut self, words: &[u32])
+        ensures { self.new ≡ spec.puts self.old 10 6 words.now }
+    {
+        for (register, word) in (10..16u8).zip(words) {
+            self.put(register, *word);
+        }
+    }
+
     // Goes on after a call: the words that come back are in x10 to x15, the others stay.
     pub fn resume(&mut self, answer: Answer)
         ensures { self.new ≡ spec.returned self.old (words answer) }
     {
         match answer {
-            Answer::No => self.put(10, Answer::NO),
-            Answer::Done => self.put(10, 0),
-            Answer::Heard(byte) => {
-                self.put(10, 0);
-                self.put(11, u32::from(byte));
-            }
+            Answer::No => self.put_words(&[Answer::NO]),
+            Answer::Done => self.put_words(&[0]),
+            Answer::Heard(byte) => self.put_words(&[0, u32::from(byte)]),
             Answer::Received { badge, words } => {
                 let [a, b, c, d] = words;
-                self.put(10, 0);
-                self.put(11, badge);
-                self.put(12, a);
-                self.put(13, b);
-                self.put(14, c);
-                self.put(15, d);
+                self.put_words(&[0, badge, a, b, c, d]);
             }
         }
         self.advance();

@@ -89,6 +89,7 @@ fn store(cpu: &Cpu, width: Width, rs2: u8, address: u32) -> Step
 fn ecall(cpu: &Cpu) -> Step
     ensures { spec.told cpu.now result ≡ spec.ecall cpu.now }
 {
+    // One by one: with `map` over the six numbers (tried), the proof of this function did not close.
     let arguments = [
         cpu.get(10),
         cpu.get(11),
