@@ -1,43 +1,32 @@
 -- From a reader's answer back to what was read.
-use Rattle.std.proofs.Common.{◌≡◌, ℕ, zero, suc, ◌+◌, ◌-◌, ◌<◌, ◌≤◌, Bool, true, List, length, get_or, Some, None, Ok, Option, sym, refl, ap, ◌∙◌, subst, inl, inr, arith}
-use Rattle.std.proofs.lemmas.Bool.{lt-ltb, le-ltb, eq-eqb, ne_eqb, cases_eq, cases_lt, cases_Bool}
+use Rattle.std.proofs.Common.{◌≡◌, ℕ, zero, suc, ◌+◌, ◌-◌, ◌<◌, ◌≤◌, Bool, true, List, length, get_or, Some, Ok, Option, refl, ap, ◌∙◌, subst, inl, inr, arith}
+use Rattle.std.proofs.lemmas.Bool.{eq-eqb, ne_eqb, cases_eq}
 use Rattle.std.proofs.lemmas.Bool.Decides.{nat_tests}
 use Rattle.rights.specs.declared.kinds.Kind.{Kind}
-use Rattle.rights.specs.declared.kinds.Kind.TheVariants.{Pool, Table, Port, Page, Thread, Line}
+use Rattle.rights.specs.declared.kinds.Kind.TheVariants.{Table, Thread, Line}
 use Rattle.rights.specs.declared.refusals.Refusal.{Refusal}
 use Rattle.rights.specs.Vocabulary.{kind_number, kind_from}
 use Rattle.rights.specs.World.{Slot}
 use Rattle.image.specs.declared.census.Census.{Census}
 use Rattle.image.specs.declared.census.Kinds.{Kinds}
-use Rattle.image.specs.declared.content.Entry.TheVariants.{Mapping}
 use Rattle.image.specs.Fields.{one, two, past, given, each}
 use Rattle.image.specs.Format.{head_at, size_at, lets_in, if_let_in, kind_at, counted, right_size, header, slot, mapping, entries, state, names}
-use Rattle.image.specs.Meaning.{four, slots_from, pages_from, marks_from, bytes_from, pairs}
-use Rattle.image.proofs.Sized.{then_back, judged_back, past_back}
+use Rattle.std.specs.List.{zip}
+use Rattle.image.specs.Meaning.{four, slots_from, pages_from, marks_from, bytes_from}
+use Rattle.image.proofs.Sized.{then_back, judged_back, past_back, slot_back, mapping_back}
 use Rattle.image.proofs.Stands.{Alls}
 use Rattle.image.proofs.Slots.{GoodSlot, Orderly}
 use Rattle.image.proofs.Spaces.{GoodMap}
 
 -- headers
 given_back : {A : Type 0} (o : Option A) (x : Refusal) (b : A) → given o x ≡ Ok b → o ≡ Some b
-given_back (Some a) x b e = cc
-given_back None x b e = let z : ◌≡◌ {A = ℕ} 0 1 = cc in absurd (omega arith)
+given_back o x b e = grind arith
 
 kind_back : (k : ℕ) (K : Kind) → kind_from k ≡ Some K → k ≡ kind_number K
-kind_back k Pool e = grind (arith, nat_tests)
-kind_back k Table e = grind (arith, nat_tests)
-kind_back k Port e = grind (arith, nat_tests)
-kind_back k Page e = grind (arith, nat_tests)
-kind_back k Thread e = grind (arith, nat_tests)
-kind_back k Line e = grind (arith, nat_tests)
+kind_back k K e = grind (arith, nat_tests)
 
 let_in_back : (ks : Kinds) (m : Option Kind) (K : Kind) → if_let_in ks m ≡ Some K → (m ≡ Some K) × (lets_in ks K ≡ true)
-let_in_back ks None K e = let z : ◌≡◌ {A = ℕ} 0 1 = cc in absurd (omega arith)
-let_in_back ks (Some j) K e =
-    elim (cases_Bool (lets_in ks j)) [
-      | inl t ↦ (let f : Some j ≡ Some K = rw t at e in let q : j ≡ K = cc in (f, subst (λ k. lets_in ks k ≡ true) q t))
-      | inr t ↦ (let f : None ≡ Some K = rw t at e in let z : ◌≡◌ {A = ℕ} 0 1 = cc in absurd (omega arith))
-    ]
+let_in_back ks m K e = grind (arith, nat_tests)
 
 -- what was read of a header
 pub record HeadRead (ks : Kinds) (bs : List ℕ) (o : ℕ) (c d : Census) : Type 0 where
@@ -71,32 +60,12 @@ head_back ks bs o c d e =
     }
 
 pub thread_count : (c d : Census) → counted c Thread ≡ Some d → (d.threads ≡ c.threads + 1) × (d.threads ≤ 64) × (d.lines ≡ c.lines) × (d.objects ≡ c.objects)
-thread_count c d e =
-    elim (cases_lt c.threads 64) [
-      | inl l ↦
-          (let q : counted c Thread ≡ Some (record { objects = c.objects; threads = c.threads + 1; lines = c.lines }) = rw (lt-ltb c.threads 64 l) in
-          let r : record { objects = c.objects; threads = c.threads + 1; lines = c.lines } ≡ d = cc in
-          (sym (ap (λ (g : Census). g.threads) r), omega (arith, ap (λ (g : Census). g.threads) r, l), sym (ap (λ (g : Census). g.lines) r), sym (ap (λ (g : Census). g.objects) r)))
-      | inr l ↦ (let q : counted c Thread ≡ None = rw (le-ltb c.threads 64 l) in let z : ◌≡◌ {A = ℕ} 0 1 = cc in absurd (omega arith))
-    ]
+thread_count c d e = grind (arith, nat_tests)
 
 pub line_count : (c d : Census) → counted c Line ≡ Some d → (d.lines ≡ c.lines + 1) × (d.lines ≤ 32) × (d.threads ≡ c.threads) × (d.objects ≡ c.objects)
-line_count c d e =
-    elim (cases_lt c.lines 32) [
-      | inl l ↦
-          (let q : counted c Line ≡ Some (record { objects = c.objects; threads = c.threads; lines = c.lines + 1 }) = rw (lt-ltb c.lines 32 l) in
-          let r : record { objects = c.objects; threads = c.threads; lines = c.lines + 1 } ≡ d = cc in
-          (sym (ap (λ (g : Census). g.lines) r), omega (arith, ap (λ (g : Census). g.lines) r, l), sym (ap (λ (g : Census). g.threads) r), sym (ap (λ (g : Census). g.objects) r)))
-      | inr l ↦ (let q : counted c Line ≡ None = rw (le-ltb c.lines 32 l) in let z : ◌≡◌ {A = ℕ} 0 1 = cc in absurd (omega arith))
-    ]
+line_count c d e = grind (arith, nat_tests)
 
 -- slots, spaces, threads
-slot_back : (bs : List ℕ) (n a b : ℕ) → slot bs n a ≡ Ok b → (two bs a ≤ n) × (b ≡ a + 7)
-slot_back bs n a b e = grind (arith, nat_tests)
-
-mapping_back : (bs : List ℕ) (n a b : ℕ) → mapping bs n a ≡ Ok b → (names bs n (two bs a) Page ≡ true) × (b ≡ a + 3)
-mapping_back bs n a b e = grind (arith, nat_tests)
-
 module _ (bs : List ℕ) (low : (k : ℕ) → get_or bs k 0 < 256) where
   pub two_low : (a : ℕ) → two bs a < 65536
   two_low a = omega (arith, low a, low (a + 1))
@@ -129,10 +98,10 @@ module _ (bs : List ℕ) (low : (k : ℕ) → get_or bs k 0 < 256) where
   pub record MapsRead (n k i : ℕ) (ps : List ℕ) (rs : List Bool) : Type 0 where
     pub long : length ps ≡ k
     pub wide : length rs ≡ k
-    pub good : Alls (GoodMap bs n) i (pairs ps rs)
+    pub good : Alls (GoodMap bs n) i (zip ps rs)
 
   pub maps_read : (n k i a c : ℕ) → each (λ _ a. mapping bs n a) k i a ≡ Ok c → MapsRead n k i (pages_from bs k a) (marks_from bs k a)
-  unfolding each pages_from marks_from pairs
+  unfolding each pages_from marks_from
   maps_read n zero i a c e = record { long = refl; wide = refl; good = tt }
   maps_read n (suc k) i a c e =
       let t = then_back (mapping bs n a) (each (λ _ a. mapping bs n a) k (suc i)) c e in
@@ -157,5 +126,5 @@ module _ (bs : List ℕ) (low : (k : ℕ) → get_or bs k 0 < 256) where
       let t = then_back (past bs a 2) _ b e in
       let p = past_back bs a 2 t.0 t.1 in
       let j = judged_back _ _ _ b t.2 in
-      let u = then_back (entries bs n Mapping 64 t.0) _ b j.1 in
+      let u = then_back (entries (mapping bs n) 64 t.0) _ b j.1 in
       (j.0, subst (λ s. MapsRead n 64 0 (pages_from bs 64 s) (marks_from bs 64 s)) p.1 (maps_read n 64 0 t.0 u.0 u.1))

@@ -8,21 +8,18 @@ use Rattle.rv32.specs.Execute.{act}
 use Rattle.image.specs.Meaning.{births_of, births_all}
 use Rattle.image.proofs.Slots.{Orderly}
 
-pub no_cap : (u b j m : ℕ) (r : Rights) → empty ≡ cap u r b j m → ⊥
-no_cap u b j m r e = let z : ◌≡◌ {A = ℕ} 0 1 = cc in omega arith
-
 slot_range : (b : ℕ) (ss : List Slot) → Orderly b ss → (i u g j m : ℕ) (r : Rights) → get_or ss i empty ≡ cap u r g j m → (suc b ≤ j) × (j ≤ b + births_of ss)
 unfolding births_of
-slot_range b [] o i u g j m r e = absurd (no_cap u g j m r e)
-slot_range b (empty ∷ ss) o zero u g j m r e = absurd (no_cap u g j m r e)
+slot_range b [] o i u g j m r e = cc
+slot_range b (empty ∷ ss) o zero u g j m r e = cc
 slot_range b (empty ∷ ss) o (suc i) u g j m r e = slot_range b ss o i u g j m r e
 slot_range b (cap v q h k l ∷ ss) o zero u g j m r e = let f : k ≡ j = cc in (omega (arith, f, o.0), omega (arith, f, o.0))
 slot_range b (cap v q h k l ∷ ss) o (suc i) u g j m r e = let f = slot_range (suc b) ss o.1 i u g j m r e in (omega (arith, f.0), omega (arith, f.1))
 
 slot_once : (b : ℕ) (ss : List Slot) → Orderly b ss → (i u g j m k v h l : ℕ) (r q : Rights) → get_or ss i empty ≡ cap u r g j m → get_or ss k empty ≡ cap v q h j l → i ≡ k
-slot_once b [] o i u g j m k v h l r q e f = absurd (no_cap u g j m r e)
-slot_once b (empty ∷ ss) o zero u g j m k v h l r q e f = absurd (no_cap u g j m r e)
-slot_once b (empty ∷ ss) o (suc i) u g j m zero v h l r q e f = absurd (no_cap v h j l q f)
+slot_once b [] o i u g j m k v h l r q e f = cc
+slot_once b (empty ∷ ss) o zero u g j m k v h l r q e f = cc
+slot_once b (empty ∷ ss) o (suc i) u g j m zero v h l r q e f = cc
 slot_once b (empty ∷ ss) o (suc i) u g j m (suc k) v h l r q e f = ap suc (slot_once b ss o i u g j m k v h l r q e f)
 slot_once b (cap v0 q0 h0 k0 l0 ∷ ss) o zero u g j m zero v h l r q e f = refl
 slot_once b (cap v0 q0 h0 k0 l0 ∷ ss) o zero u g j m (suc k) v h l r q e f =
@@ -39,20 +36,17 @@ abbrev pub Orders : ℕ → List (Object Cpu) → Type 0
 Orders b [] = Unit {0}
 Orders b (x ∷ xs) = Orderly b (slots x) × Orders (b + births_of (slots x)) xs
 
-none_there : (i u g j m : ℕ) (r : Rights) → get_or (slots gone) i empty ≡ cap u r g j m → ⊥
-unfolding slots_of
-none_there i u g j m r e = no_cap u g j m r e
-
 pub range : (b : ℕ) (xs : List (Object Cpu)) → Orders b xs → (o i u g j m : ℕ) (r : Rights) → get_or (slots (get_or xs o gone)) i empty ≡ cap u r g j m
     → (suc b ≤ j) × (j ≤ b + births_all xs)
-unfolding births_all
-range b [] h o i u g j m r e = absurd (none_there i u g j m r e)
+unfolding births_all slots_of
+range b [] h o i u g j m r e = cc
 range b (x ∷ xs) h zero i u g j m r e = let s = slot_range b (slots x) h.0 i u g j m r e in (s.0, omega (arith, s.1))
 range b (x ∷ xs) h (suc o) i u g j m r e = let s = range (b + births_of (slots x)) xs h.1 o i u g j m r e in (omega (arith, s.0), omega (arith, s.1))
 
 pub once : (b : ℕ) (xs : List (Object Cpu)) → Orders b xs → (o i u g j m p k v h l : ℕ) (r q : Rights) → get_or (slots (get_or xs o gone)) i empty ≡ cap u r g j m
     → get_or (slots (get_or xs p gone)) k empty ≡ cap v q h j l → (o ≡ p) × (i ≡ k)
-once b [] d o i u g j m p k v h l r q e f = absurd (none_there i u g j m r e)
+unfolding slots_of
+once b [] d o i u g j m p k v h l r q e f = cc
 once b (x ∷ xs) d zero i u g j m zero k v h l r q e f = (refl, slot_once b (slots x) d.0 i u g j m k v h l r q e f)
 once b (x ∷ xs) d zero i u g j m (suc p) k v h l r q e f =
     let s = slot_range b (slots x) d.0 i u g j m r e in
@@ -94,7 +88,7 @@ order_split : (ss : List Slot) (rest : List ℕ) (b k : ℕ) → births_in Cpu f
 unfolding births_in up_from births_of
 order_split [] rest b k e = (tt, (k, omega arith, rw add-zero e))
 order_split (empty ∷ ss) rest b k e = order_split ss rest b k e
-order_split (cap o r g i m ∷ ss) rest b zero e = let z : ◌≡◌ {A = ℕ} 0 1 = cc in absurd (omega arith)
+order_split (cap o r g i m ∷ ss) rest b zero e = cc
 order_split (cap o r g i m ∷ ss) rest b (suc k) e =
     let t = order_split ss rest (suc b) k (cc) in
     let q : suc b + births_of ss ≡ b + suc (births_of ss) = omega arith in
@@ -103,7 +97,7 @@ order_split (cap o r g i m ∷ ss) rest b (suc k) e =
 none_left : (b k : ℕ) → [] ≡ up_from Cpu fresh act (suc b) k → births_all [] ≡ k
 unfolding up_from births_all
 none_left b zero e = refl
-none_left b (suc k) e = let z : ◌≡◌ {A = ℕ} 0 1 = cc in absurd (omega arith)
+none_left b (suc k) e = cc
 
 pub order_all : (xs : List (Object Cpu)) (b k : ℕ) → all_births Cpu fresh act xs ≡ up_from Cpu fresh act (suc b) k → Orders b xs × (births_all xs ≡ k)
 unfolding all_births births_all

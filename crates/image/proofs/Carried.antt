@@ -1,53 +1,50 @@
 -- An allowed world has objects that an image can carry.
-use Rattle.std.proofs.Common.{◌≡◌, ℕ, zero, suc, ◌+◌, ◌-◌, ◌*◌, ◌/◌, ◌<◌, Bool, true, ◌≢◌, List, [], ◌∷◌, length, get_or, refl, ap, ◌∙◌, subst, inl, inr, arith}
-use lib.Dec.{eqb-suc-zero}
+use Rattle.std.proofs.Common.{◌≡◌, ℕ, zero, suc, ◌+◌, ◌-◌, ◌*◌, ◌/◌, ◌<◌, Bool, true, ◌≢◌, List, [], ◌∷◌, length, get_or, refl, ap, ◌∙◌, subst, arith}
 use Rattle.std.proofs.lemmas.List.{get_or_past}
-use Rattle.std.proofs.lemmas.Bool.{le-leb, eq-eqb, cases_lt}
 use Rattle.rights.specs.declared.kinds.Kind.{Kind}
-use Rattle.rights.specs.declared.kinds.Kind.TheVariants.{Pool, Table, Port, Page, Thread, Line}
-use Rattle.rights.specs.World.{World, Sizes, Object, Slot, State, Wait, empty, cap, gone, pool, table, port, page, thread, line, stopped, ready, waits, slots_of, object}
+use Rattle.rights.specs.declared.kinds.Kind.TheVariants.{Table, Page}
+use Rattle.rights.specs.World.{World, Sizes, Object, Slot, State, Wait, empty, gone, pool, table, port, page, thread, slots_of, object}
 use Rattle.rights.specs.Promise.{New, new_pool, new_table, new_port, new_page, new_thread, new_line}
 use Rattle.rv32.specs.declared.registers.Cpu.{Cpu}
 use Rattle.rv32.specs.Registers.{fresh}
 use Rattle.rv32.specs.Execute.{act}
-use Rattle.image.specs.Fields.{one}
+use Rattle.std.proofs.lemmas.Bool.Decides.{nat_tests}
 use Rattle.image.specs.Format.{head_at, names, is_a, lets_in}
-use Rattle.image.specs.Meaning.{all, pairs, state_of, ready_mark, header_bytes}
+use Rattle.std.specs.List.{flat_map, zip}
+use Rattle.image.specs.Meaning.{state_of, ready_mark, header_bytes}
 use Rattle.image.specs.Allowed.{Allowed, ThinWorld}
 use Rattle.image.specs.Verdict.{built, all_kinds}
 use Rattle.image.proofs.Stands.{At, Alls, alls_from, at_split}
 use Rattle.image.proofs.Slots.{GoodSlot}
 use Rattle.image.proofs.Spaces.{GoodMap}
-use Rattle.image.proofs.Objects.{LetIn, let_as, Good, Placed}
+use Rattle.image.proofs.Objects.{LetIn, Good, Placed}
 
 -- each header stands where it should
-head_step : (bs : List ℕ) (x : Object Cpu) (xs : List (Object Cpu)) (i : ℕ) → At bs (head_at i) (all header_bytes (x ∷ xs)) → At bs (head_at i) (header_bytes x) × At bs (head_at (suc i)) (all header_bytes xs)
-unfolding all
+head_step : (bs : List ℕ) (x : Object Cpu) (xs : List (Object Cpu)) (i : ℕ) → At bs (head_at i) (flat_map header_bytes (x ∷ xs)) → At bs (head_at i) (header_bytes x) × At bs (head_at (suc i)) (flat_map header_bytes xs)
 head_step bs x xs i h =
-    let s = at_split bs (head_at i) (header_bytes x) (all header_bytes xs) h in
+    let s = at_split bs (head_at i) (header_bytes x) (flat_map header_bytes xs) h in
     let e : head_at i + 3 ≡ head_at (suc i) = omega arith in
-    (s.0, subst (λ k. At bs k (all header_bytes xs)) e s.1)
+    (s.0, subst (λ k. At bs k (flat_map header_bytes xs)) e s.1)
 
-pub placed_all : (bs : List ℕ) (n : ℕ) (xs : List (Object Cpu)) (i : ℕ) → At bs (head_at i) (all header_bytes xs) → Alls (λ _ x. Good bs n x) i xs → Alls (Placed bs n) i xs
+pub placed_all : (bs : List ℕ) (n : ℕ) (xs : List (Object Cpu)) (i : ℕ) → At bs (head_at i) (flat_map header_bytes xs) → Alls (λ _ x. Good bs n x) i xs → Alls (Placed bs n) i xs
 placed_all bs n [] i h g = tt
 placed_all bs n (x ∷ xs) i h g = let s = head_step bs x xs i h in ((s.0, g.0), placed_all bs n xs (suc i) s.1 g.1)
 
-head_of : (bs : List ℕ) (xs : List (Object Cpu)) (i j : ℕ) → At bs (head_at i) (all header_bytes xs) → j < length xs → At bs (head_at (i + j)) (header_bytes (get_or xs j gone))
+head_of : (bs : List ℕ) (xs : List (Object Cpu)) (i j : ℕ) → At bs (head_at i) (flat_map header_bytes xs) → j < length xs → At bs (head_at (i + j)) (header_bytes (get_or xs j gone))
 head_of bs [] i j h l = absurd (omega (arith, l))
 head_of bs (x ∷ xs) i zero h l = let e : i + 0 ≡ i = omega arith in rw e (head_step bs x xs i h).0
 head_of bs (x ∷ xs) i (suc j) h l = let k : i + suc j ≡ suc i + j = omega arith in rw k (head_of bs xs (suc i) j (head_step bs x xs i h).1 (omega (arith, l)))
 
 named : (bs : List ℕ) (n u : ℕ) (k : Kind) → u < n → is_a bs u k ≡ true → names bs n (suc u) k ≡ true
-named bs n u k l e = let q : suc u - 1 ≡ u = omega arith in rw (eqb-suc-zero u, q, e, le-leb (suc u) n l)
+named bs n u k l e = grind (arith, nat_tests)
 
-maps_good : (bs : List ℕ) (n : ℕ) (ps : List ℕ) (rs : List Bool) (i : ℕ) → ((j : ℕ) → (get_or ps j 0 < 65536) × (names bs n (get_or ps j 0) Page ≡ true)) → Alls (GoodMap bs n) i (pairs ps rs)
-unfolding pairs
+maps_good : (bs : List ℕ) (n : ℕ) (ps : List ℕ) (rs : List Bool) (i : ℕ) → ((j : ℕ) → (get_or ps j 0 < 65536) × (names bs n (get_or ps j 0) Page ≡ true)) → Alls (GoodMap bs n) i (zip ps rs)
 maps_good bs n [] rs i h = tt
 maps_good bs n (p ∷ ps) [] i h = tt
 maps_good bs n (p ∷ ps) (r ∷ rs) i h = (h 0, maps_good bs n ps rs (suc i) (λ j. h (suc j)))
 
 -- an allowed world, and bytes with the headers of its objects
-module _ (z : Sizes) (w : World Cpu) (zb : z.bytes ≡ 4096) (zp : z.pages ≡ 64) (fine : Allowed z w) (bs : List ℕ) (headed : At bs (head_at 0) (all header_bytes w.objects)) where
+module _ (z : Sizes) (w : World Cpu) (zb : z.bytes ≡ 4096) (zp : z.pages ≡ 64) (fine : Allowed z w) (bs : List ℕ) (headed : At bs (head_at 0) (flat_map header_bytes w.objects)) where
   abbrev n : ℕ
   n = length w.objects
 
@@ -56,7 +53,7 @@ module _ (z : Sizes) (w : World Cpu) (zb : z.bytes ≡ 4096) (zp : z.pages ≡ 6
 
   live : (u : ℕ) → its u ≢ gone → u < n
   unfolding object
-  live u h = elim (cases_lt u n) [ inl l ↦ l | inr l ↦ absurd (h (get_or_past w.objects u gone l)) ]
+  live u h = grind (arith, get_or_past w.objects u gone)
 
   -- the header of an object that is there
   its_head : (u : ℕ) (x : Object Cpu) → u < n → its u ≡ x → At bs (head_at u) (header_bytes x)
@@ -66,18 +63,13 @@ module _ (z : Sizes) (w : World Cpu) (zb : z.bytes ≡ 4096) (zp : z.pages ≡ 6
       subst (λ y. At bs (head_at u) (header_bytes y)) e (subst (λ k. At bs (head_at k) (header_bytes (get_or w.objects u gone))) q (head_of bs w.objects 0 u headed l))
 
   names_table : (u g : ℕ) (ss : List Slot) → its u ≡ table g ss → (suc u < 65536) × (names bs n (suc u) Table ≡ true)
-  names_table u g ss e =
-      let l = live u (λ f. let q : ◌≡◌ {A = ℕ} 0 1 = cc in omega arith) in
-      (omega (arith, l, fine.few), named bs n u Table l (eq-eqb (one bs (head_at u)) 1 (its_head u (table g ss) l e).0))
+  names_table u g ss e = grind (arith, live u, fine.few, named bs n u Table, its_head u (table g ss))
 
   names_page : (u g : ℕ) (xs : List ℕ) → its u ≡ page g xs → (suc u < 65536) × (names bs n (suc u) Page ≡ true)
-  names_page u g xs e =
-      let l = live u (λ f. let q : ◌≡◌ {A = ℕ} 0 1 = cc in omega arith) in
-      (omega (arith, l, fine.few), named bs n u Page l (eq-eqb (one bs (head_at u)) 3 (its_head u (page g xs) l e).0))
+  names_page u g xs e = grind (arith, live u, fine.few, named bs n u Page, its_head u (page g xs))
 
   slot_good : (o i k : ℕ) (s : Slot) → get_or (slots_of Cpu fresh act (its o)) i empty ≡ s → GoodSlot n k s
-  slot_good o i k empty e = tt
-  slot_good o i k (cap u r b j m) e = let h = fine.parted.held o i u b j m r e in (live u h.2, fine.fits.badges o i u b j m r e, h.1)
+  slot_good o i k s e = grind (arith, fine.parted.held o i, fine.fits.badges o i, live)
 
   slots_good : (o f : ℕ) (ss : List Slot) → its o ≡ table f ss → Alls (GoodSlot n) 0 ss
   unfolding slots_of
@@ -85,17 +77,13 @@ module _ (z : Sizes) (w : World Cpu) (zb : z.bytes ≡ 4096) (zp : z.pages ≡ 6
       alls_from (GoodSlot n) empty ss 0 (λ j l. slot_good o j (0 + j) (get_or ss j empty) (ap (λ (x : Object Cpu). get_or (slots_of Cpu fresh act x) j empty) e))
 
   page_fine : (o f t : ℕ) (s : State Cpu) (c : Cpu) (ps : List ℕ) (rs : List Bool) → its o ≡ thread f s c t ps rs → (k p : ℕ) → get_or ps k 0 ≡ p → (p < 65536) × (names bs n p Page ≡ true)
-  page_fine o f t s c ps rs e k zero q = (omega arith, refl)
-  page_fine o f t s c ps rs e k (suc u) q = let h = fine.fits.its_pages o f t k u s c ps rs e q in names_page u h.0 h.1 h.2
+  page_fine o f t s c ps rs e k p q = grind (arith, nat_tests, fine.fits.its_pages o f t k (p - 1) s c ps rs e, names_page)
 
   table_fine : (o f t : ℕ) (s : State Cpu) (c : Cpu) (ps : List ℕ) (rs : List Bool) → its o ≡ thread f s c t ps rs → (t < 65536) × (names bs n t Table ≡ true)
-  table_fine o f zero s c ps rs e = (omega arith, refl)
-  table_fine o f (suc t) s c ps rs e = let h = fine.fits.its_table o f t s c ps rs e in names_table t h.0 h.1 h.2
+  table_fine o f t s c ps rs e = grind (arith, nat_tests, fine.fits.its_table o f (t - 1) s c ps rs, names_table)
 
   state_fine : (o f t : ℕ) (s : State Cpu) (c : Cpu) (ps : List ℕ) (rs : List Bool) → its o ≡ thread f s c t ps rs → state_of (ready_mark s) ≡ s
-  state_fine o f t stopped c ps rs e = refl
-  state_fine o f t ready c ps rs e = refl
-  state_fine o f t (waits u k) c ps rs e = absurd (fine.parted.awake o f t u c ps rs k e)
+  state_fine o f t s c ps rs e = grind (arith, fine.parted.awake o f t)
 
   good_of : (o : ℕ) (x : Object Cpu) → its o ≡ x → New Cpu fresh act z x → Good bs n x
   good_of o x e (new_pool {n = k} h l) =
@@ -124,29 +112,13 @@ module _ (z : Sizes) (w : World Cpu) (zb : z.bytes ≡ 4096) (zp : z.pages ≡ 6
 
 -- every kind is let in; and without pools and ports all but these
 let_all : (k : Kind) → lets_in all_kinds k ≡ true
-let_all Pool = refl
-let_all Table = refl
-let_all Port = refl
-let_all Page = refl
-let_all Thread = refl
-let_all Line = refl
+let_all k = grind arith
 
 pub all_let_in : (xs : List (Object Cpu)) (i : ℕ) → Alls (λ _ x. LetIn all_kinds x) i xs
 all_let_in xs i = alls_from (λ _ x. LetIn all_kinds x) gone xs i (λ j l k e. let_all k)
 
 thin_one : (x : Object Cpu) → ((f n u : ℕ) → x ≡ pool f n u → ⊥) → ((f : ℕ) (ws : List Wait) → x ≡ port f ws → ⊥) → LetIn built x
-thin_one gone a b Pool e = absurd (omega (arith, e))
-thin_one gone a b Table e = refl
-thin_one gone a b Port e = absurd (omega (arith, e))
-thin_one gone a b Page e = refl
-thin_one gone a b Thread e = refl
-thin_one gone a b Line e = refl
-thin_one (pool f n u) a b k e = absurd (a f n u refl)
-thin_one (table f ss) a b k e = let_as built (table f ss) Table refl refl k e
-thin_one (port f ws) a b k e = absurd (b f ws refl)
-thin_one (page f bs) a b k e = let_as built (page f bs) Page refl refl k e
-thin_one (thread f s c t ps rs) a b k e = let_as built (thread f s c t ps rs) Thread refl refl k e
-thin_one (line xs ys) a b k e = let_as built (line xs ys) Line refl refl k e
+thin_one x a b k e = grind arith
 
 pub thin_let_in : (w : World Cpu) → ThinWorld w → Alls (λ _ x. LetIn built x) 0 w.objects
 unfolding object

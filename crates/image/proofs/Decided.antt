@@ -1,13 +1,13 @@
 -- What of an image decides about it: the whole reading, and refusals that do not depend on what follows.
-use Rattle.std.proofs.Common.{◌≡◌, ℕ, ◌<◌, ◌≤◌, min, Bool, true, false, not, ◌||◌, eqb, leb, ◌⊎◌, List, length, Ok, Err, sym, refl, ap, ◌∙◌, subst, inl, inr, arith}
+use Rattle.std.proofs.Common.{◌≡◌, ℕ, ◌<◌, ◌≤◌, min, Bool, true, false, ◌||◌, leb, ◌⊎◌, List, length, Ok, Err, sym, refl, ap, ◌∙◌, subst, inl, inr, arith}
 use Rattle.std.proofs.lemmas.Bool.{cases_lt, cases_Bool, le-leb, lt-leb, lt-ltb}
 use Rattle.std.proofs.lemmas.Bool.Decides.{nat_tests}
 use Rattle.rights.specs.declared.refusals.Refusal.{Refusal}
-use Rattle.rights.specs.declared.refusals.Refusal.TheVariants.{Length, Magic, Value, Name, Frames, Event}
+use Rattle.rights.specs.declared.refusals.Refusal.TheVariants.{Length, Value, Frames, Event}
 use Rattle.rights.specs.Vocabulary.{refusal_number}
 use Rattle.image.specs.declared.census.Census.{Census}
 use Rattle.image.specs.declared.census.Kinds.{Kinds}
-use Rattle.image.specs.Fields.{one, two, Read, ◌then◌, judged}
+use Rattle.image.specs.Fields.{two, Read, ◌then◌, judged}
 use Rattle.image.specs.Format.{head_at, differs, magic, count, headers, body}
 use Rattle.image.specs.Layout.{frames_for}
 use Rattle.image.specs.Prefix.{SameBelow, field_end, DecidedEarly, GoesOn}
@@ -15,14 +15,9 @@ use Rattle.image.specs.Verdict.{verdict}
 use Rattle.image.proofs.Told.{Told, Halt, longer, told_then, told_past, told_test, told_ok}
 use Rattle.image.proofs.Early.{same_two, headers_told, body_told}
 
--- readers one after the other, grouped otherwise
-pub then_assoc : {A B C : Type 0} (r : Read A) (f : A → Read B) (g : B → Read C) → (r then f) then g ≡ r then (λ x. f x then g)
-then_assoc (Ok x) f g = refl
-then_assoc (Err e) f g = refl
-
-pub then_cong : {A B : Type 0} (r : Read A) (f g : A → Read B) → ((x : A) → f x ≡ g x) → r then f ≡ r then g
-then_cong (Ok x) f g h = h x
-then_cong (Err e) f g h = refl
+-- the number of objects
+pub count_back : (bs : List ℕ) (n : ℕ) → count bs ≡ Ok n → (n ≡ two bs 4) × (n ≤ 1000)
+count_back bs n e = grind (arith, nat_tests)
 
 -- the fields in their order: the census, the number of objects, and the place after the last field
 abbrev pub Reading : Type 0
@@ -37,44 +32,18 @@ finish frames bs x =
     judged (leb (length bs) x.2) (Length x.2) (judged (leb (frames_for bs x.1) (min frames 4096)) (Frames (frames_for bs x.1)) (Ok x.0))
 
 pub verdict_is : (ks : Kinds) (frames : ℕ) (bs : List ℕ) → reading ks bs then finish frames bs ≡ verdict ks frames bs
-verdict_is ks frames bs =
-    then_assoc (magic bs) (λ _. count bs then λ n. headers ks bs n then λ c. body bs n then λ end. Ok (c, n, end)) (finish frames bs)
-    ∙ then_cong (magic bs) _ _ (λ _. then_assoc (count bs) (λ n. headers ks bs n then λ c. body bs n then λ end. Ok (c, n, end)) (finish frames bs)
-    ∙ then_cong (count bs) _ _ (λ n. then_assoc (headers ks bs n) (λ c. body bs n then λ end. Ok (c, n, end)) (finish frames bs)
-    ∙ then_cong (headers ks bs n) _ _ (λ c. then_assoc (body bs n) (λ end. Ok (c, n, end)) (finish frames bs))))
-
-or_too : (a b c d : Bool) → (a ≡ true → c ≡ true) → (b ≡ true → d ≡ true) → a || b ≡ true → c || d ≡ true
-or_too true b c d p q e = rw (p refl) refl
-or_too false b true d p q e = refl
-or_too false b false d p q e = q e
+verdict_is ks frames bs = grind arith
 
 module _ (bs cs : List ℕ) where
-  -- a byte of "HOLD" that differs in bs differs in cs
-  differs_too : (k c : ℕ) → k < 4 → SameBelow 4 bs cs → differs bs k c ≡ true → differs cs k c ≡ true
-  differs_too k c l g e =
-      elim (cases_lt k (length bs)) [
-        | inl h ↦ (let t = g k l h in
-            let q : differs bs k c ≡ not (eqb (one bs k) c) = rw (lt-ltb k (length bs) h) in
-            rw (lt-ltb k (length cs) t.0, t.1) (sym q ∙ e))
-        | inr h ↦ grind (arith, nat_tests)
-      ]
-
-  same_differs : (k c : ℕ) → k < 4 → 4 ≤ length bs → SameBelow 4 bs cs → differs cs k c ≡ differs bs k c
-  same_differs k c l h g =
-      let t = g k l (omega arith) in
-      rw (lt-ltb k (length cs) t.0, lt-ltb k (length bs) (omega arith), t.1)
-
+  -- whether a byte of "HOLD" differs
   abbrev strange : List ℕ → Bool
   strange ds = differs ds 0 72 || (differs ds 1 79 || (differs ds 2 76 || differs ds 3 68))
 
   strange_too : SameBelow 4 bs cs → strange bs ≡ true → strange cs ≡ true
-  strange_too g e =
-      or_too _ _ _ _ (differs_too 0 72 (omega arith) g)
-      (or_too _ _ _ _ (differs_too 1 79 (omega arith) g) (or_too _ _ _ _ (differs_too 2 76 (omega arith) g) (differs_too 3 68 (omega arith) g))) e
+  strange_too g e = grind (arith, nat_tests, g 0, g 1, g 2, g 3)
 
   same_strange : 4 ≤ length bs → SameBelow 4 bs cs → strange cs ≡ strange bs
-  same_strange h g =
-      simp (same_differs 0 72 (omega arith) h g, same_differs 1 79 (omega arith) h g, same_differs 2 76 (omega arith) h g, same_differs 3 68 (omega arith) h g)
+  same_strange h g = grind (arith, nat_tests, g 0, g 1, g 2, g 3)
 
   magic_told : (n : ℕ) → Told bs cs (field_end n) (λ _. 4) 0 (magic bs) (magic cs)
   magic_told n =
@@ -101,9 +70,6 @@ module _ (bs cs : List ℕ) where
       (λ g. ap (λ v. leb v 1000) (same_two bs cs n 6 4 (omega arith) h g))
       (omega arith, h, λ g. ap Ok (same_two bs cs n 6 4 (omega arith) h g)))
 
-  count_is : (n : ℕ) → count bs ≡ Ok n → n ≡ two bs 4
-  count_is n e = grind (arith, nat_tests)
-
   -- what follows the number of objects
   abbrev rest : Kinds → List ℕ → ℕ → Read Reading
   rest ks ds n = headers ks ds n then λ c. body ds n then λ end. Ok (c, n, end)
@@ -119,25 +85,18 @@ module _ (bs cs : List ℕ) where
   reading_told ks =
       told_then bs cs (field_end (two bs 4)) (λ _. 4) (λ x. x.2) 0 (magic bs) (magic cs) (λ _. count bs then rest ks bs) (λ _. count cs then rest ks cs) (magic_told (two bs 4))
       (λ _ _ _ _. told_then bs cs (field_end (two bs 4)) (λ _. 6) (λ x. x.2) 4 (count bs) (count cs) (rest ks bs) (rest ks cs) (count_told (two bs 4))
-      (λ n _ high e. subst (λ m. Told bs cs (field_end m) (λ x. x.2) 6 (rest ks bs n) (rest ks cs n)) (count_is n e) (rest_told ks n high)))
+      (λ n _ high e. subst (λ m. Told bs cs (field_end m) (λ x. x.2) 6 (rest ks bs n) (rest ks cs n)) (count_back bs n e).0 (rest_told ks n high)))
 
 same_error : {A : Type 0} (d e : Refusal) → ◌≡◌ {A = Read A} (Err d) (Err e) → d ≡ e
 same_error d e p = cc
 
 -- what is left once the fields are read refuses with 1 or with 5
 two_ways : {A : Type 0} (t u : Bool) (p f : ℕ) (c : A) (e : Refusal) → judged t (Length p) (judged u (Frames f) (Ok c)) ≡ Err e → ((t ≡ false) × (Length p ≡ e)) ⊎ (Frames f ≡ e)
-two_ways true true p f c e q = absurd (let z : ◌≡◌ {A = ℕ} 0 1 = cc in omega arith)
-two_ways true false p f c e q = inr (same_error (Frames f) e q)
-two_ways false u p f c e q = inl (refl, same_error (Length p) e q)
+two_ways t u p f c e q = grind arith
 
 module _ (bs cs : List ℕ) (W : Refusal → ℕ) where
   early : {A : Type 0} (s : Read A) (e : Refusal) → Halt bs cs W e 0 s → 2 ≤ refusal_number e → refusal_number e ≤ 4 → SameBelow (W e) bs cs → s ≡ Err e
-  early s (Length p) h low high g = absurd (omega arith)
-  early s Magic h low high g = h.1 g
-  early s (Value p) h low high g = h.1 g
-  early s (Name p) h low high g = h.1 g
-  early s (Frames f) h low high g = absurd h
-  early s (Event p) h low high g = absurd h
+  early s e h low high g = grind arith
 
   -- a refusal among the fields stays, whatever follows the field
   stays : (r s : Read Reading) → Told bs cs W (λ x. x.2) 0 r s → (frames others : ℕ) (e : Refusal) → r then finish frames bs ≡ Err e →
@@ -153,37 +112,15 @@ module _ (bs cs : List ℕ) (W : Refusal → ℕ) where
   -- and so does that bytes go on
   goes : (r s : Read Reading) → Told bs cs W (λ x. x.2) 0 r s → (frames others p : ℕ) → r then finish frames bs ≡ Err (Length p) →
       p < length bs → p < length cs → SameBelow p bs cs → s then finish others cs ≡ Err (Length p)
-  goes (Ok x) s t frames others p v low more g =
-      elim (two_ways (leb (length bs) x.2) (leb (frames_for bs x.1) (min frames 4096)) x.2 (frames_for bs x.1) x.0 (Length p) v) [
-        | inl q ↦
-            (let e : x.2 ≡ p = cc q.1 in
-            let f : s ≡ Ok x = t.2 (subst (λ k. SameBelow k bs cs) (sym e) g) in
-            ap (λ r. r then finish others cs) f ∙ rw (lt-leb (length cs) x.2 (omega (arith, e))) (ap (λ k. Err (Length k)) e))
-        | inr q ↦ absurd (let z : 5 ≡ 1 = ap refusal_number q in omega arith)
-      ]
-  goes (Err d) s t frames others p v low more g =
-      let h : Halt bs cs W (Length p) 0 s = subst (λ f. Halt bs cs W f 0 s) (same_error d (Length p) v) t in
-      absurd (omega (arith, h))
+  goes r s t frames others p v low more g = grind (arith, nat_tests)
 
   -- a place where bytes are missing or go on lies within
   inside : (r s : Read Reading) → Told bs cs W (λ x. x.2) 0 r s → (frames p : ℕ) → r then finish frames bs ≡ Err (Length p) → p ≤ length bs
-  inside (Ok x) s t frames p v =
-      elim (two_ways (leb (length bs) x.2) (leb (frames_for bs x.1) (min frames 4096)) x.2 (frames_for bs x.1) x.0 (Length p) v) [
-        | inl q ↦ (let e : x.2 ≡ p = cc q.1 in omega (arith, e, t.1))
-        | inr q ↦ absurd (let z : 5 ≡ 1 = ap refusal_number q in omega arith)
-      ]
-  inside (Err d) s t frames p v =
-      let h : Halt bs cs W (Length p) 0 s = subst (λ f. Halt bs cs W f 0 s) (same_error d (Length p) v) t in
-      omega (arith, h)
+  inside r s t frames p v = grind (arith, nat_tests)
 
   -- and no image is refused as events are
   no_event : (r s : Read Reading) → Told bs cs W (λ x. x.2) 0 r s → (frames p : ℕ) → r then finish frames bs ≡ Err (Event p) → ⊥
-  no_event (Ok x) s t frames p v =
-      elim (two_ways (leb (length bs) x.2) (leb (frames_for bs x.1) (min frames 4096)) x.2 (frames_for bs x.1) x.0 (Event p) v) [
-        | inl q ↦ (let z : 1 ≡ 6 = ap refusal_number q.1 in omega (arith, z))
-        | inr q ↦ (let z : 5 ≡ 6 = ap refusal_number q in omega (arith, z))
-      ]
-  no_event (Err d) s t frames p v = subst (λ f. Halt bs cs W f 0 s) (same_error d (Event p) v) t
+  no_event r s t frames p v = grind (arith, nat_tests)
 
 pub decided_early : DecidedEarly
 decided_early ks frames others bs cs e v low high g =

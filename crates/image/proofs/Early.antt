@@ -1,18 +1,21 @@
 -- The readers of an image look at no byte beyond the field at hand.
-use Rattle.std.proofs.Common.{◌≡◌, ℕ, suc, ◌+◌, ◌-◌, ◌%◌, ◌<◌, ◌≤◌, Bool, true, false, cond, ◌&&◌, ◌||◌, eqb, leb, List, length, Ok, refl, ap, ◌∙◌, subst, inl, inr, arith}
-use Rattle.std.proofs.lemmas.Bool.{cases_lt, cases_Bool, cases_eq, le-leb, lt-leb, lt-ltb, le-ltb, eq-eqb, ne_eqb}
+use Rattle.std.proofs.Common.{◌≡◌, ℕ, suc, ◌+◌, ◌-◌, ◌%◌, ◌<◌, ◌≤◌, Bool, true, false, eqb, leb, List, length, refl, ap, ◌∙◌, subst, arith}
+use Rattle.std.proofs.lemmas.Bool.{lt-ltb, le-ltb, eq-eqb, ne_eqb}
 use Rattle.rights.specs.declared.kinds.Kind.{Kind}
-use Rattle.rights.specs.declared.kinds.Kind.TheVariants.{Pool, Table, Port, Page, Thread, Line}
+use Rattle.rights.specs.declared.kinds.Kind.TheVariants.{Table, Page, Thread}
 use Rattle.rights.specs.declared.refusals.Refusal.TheVariants.{Value, Name}
 use Rattle.rights.specs.Vocabulary.{kind_number, kind_from}
+use Rattle.std.proofs.lemmas.Bool.Decides.{nat_tests}
 use Rattle.image.specs.declared.census.Census.{Census}
 use Rattle.image.specs.declared.census.Kinds.{Kinds}
-use Rattle.image.specs.declared.content.Entry.{Entry}
-use Rattle.image.specs.declared.content.Entry.TheVariants.{Slot, Mapping}
 use Rattle.image.specs.Fields.{one, two, Read, ◌then◌, past, judged}
-use Rattle.image.specs.Format.{head_at, is_a, size_at, names, slot, mapping, entry, entries, state, content, part, section, body, header, headers, kind_at, if_let_in, counted, right_size}
+use Rattle.image.specs.Format.{head_at, is_a, size_at, names, slot, mapping, entries, state, content, part, section, body, header, headers, kind_at, if_let_in, counted, right_size}
 use Rattle.image.specs.Prefix.{SameBelow, field_end}
 use Rattle.image.proofs.Told.{Told, longer, told_same, told_then, told_past, told_test, told_given, told_ok, told_each}
+
+-- the end of a thread: ready, pc
+abbrev pub ready_pc : List ℕ → ℕ → Read ℕ
+ready_pc bs ready = past bs ready 1 then λ pc. judged (leb (one bs ready) 1) (Value ready) (past bs pc 4)
 
 module _ (bs cs : List ℕ) (n : ℕ) where
   -- the field of a value among the contents has one byte
@@ -20,7 +23,7 @@ module _ (bs cs : List ℕ) (n : ℕ) where
   single p l = rw (le-ltb p (head_at n) l)
 
   -- bytes and fields that are the same
-  same_one : (q a : ℕ) → a < q → q ≤ length bs → SameBelow q bs cs → one cs a ≡ one bs a
+  pub same_one : (q a : ℕ) → a < q → q ≤ length bs → SameBelow q bs cs → one cs a ≡ one bs a
   same_one q a l h g = (g a l (omega arith)).1
 
   pub same_two : (q a : ℕ) → a + 1 < q → q ≤ length bs → SameBelow q bs cs → two cs a ≡ two bs a
@@ -33,15 +36,7 @@ module _ (bs cs : List ℕ) (n : ℕ) where
   same_kind q o k l h g = ap (λ v. eqb v (kind_number k)) (same_one q (head_at o) l h g)
 
   same_name : (q v : ℕ) (k : Kind) → head_at n ≤ q → q ≤ length bs → SameBelow q bs cs → names cs n v k ≡ names bs n v k
-  same_name q v k l h g =
-      elim (cases_lt n v) [
-        | inl m ↦ rw (lt-leb v n m) refl
-        | inr m ↦
-            elim (cases_eq v 0) [
-              | inl z ↦ rw z refl
-              | inr z ↦ (let e = same_kind q (v - 1) k (omega arith) h g in ap (λ t. eqb v 0 || (leb v n && t)) e)
-            ]
-      ]
+  same_name q v k l h g = grind (arith, nat_tests, same_kind q (v - 1) k)
 
   -- what one reader of places says of bs, and another of cs
   abbrev pub Placed : ℕ → Read ℕ → Read ℕ → Type 0
@@ -51,11 +46,7 @@ module _ (bs cs : List ℕ) (n : ℕ) where
   passes p w r s more = told_past bs cs (field_end n) (λ p. p) p w r s more
 
   last_past : (p w : ℕ) → Placed p (past bs p w) (past cs p w)
-  last_past p w =
-      elim (cases_lt (length bs) (p + w)) [
-        | inl h ↦ rw (lt-leb (p + w) (length bs) h) refl
-        | inr h ↦ rw (le-leb (p + w) (length bs) h) (omega arith, h, λ g. let l = longer bs cs (field_end n) (p + w) h g in rw (le-leb (p + w) (length cs) l))
-      ]
+  last_past p w = grind (arith, nat_tests, longer bs cs (field_end n) (p + w))
 
   name_judged : (p : ℕ) (t u : Bool) (r s : Read ℕ) → (SameBelow (p + 2) bs cs → u ≡ t) → Placed (p + 2) r s → Placed (p + 2) (judged t (Name p) r) (judged u (Name p) s)
   name_judged p t u r s q h = told_test bs cs (field_end n) (λ p. p) (p + 2) t u (Name p) r s (λ a s x. x) refl q h
@@ -78,18 +69,10 @@ module _ (bs cs : List ℕ) (n : ℕ) where
       (passes (a + 2) 1 _ _ (λ k. value_judged (a + 2) _ _ _ _ (omega arith) (λ g. ap (λ v. leb v 1) (same_one (a + 2 + 1) (a + 2) (omega arith) k g))
       (told_ok bs cs (field_end n) (λ p. p) (a + 2 + 1) (a + 2 + 1) (omega arith) k))))
 
-  entry_told : (what : Entry) (a : ℕ) → head_at n ≤ a → Placed a (entry bs n what a) (entry cs n what a)
-  entry_told Slot a l = slot_told a l
-  entry_told Mapping a l = mapping_told a l
-
-  entries_told : (what : Entry) (count a : ℕ) → head_at n ≤ a → a ≤ length bs → Placed a (entries bs n what count a) (entries cs n what count a)
-  entries_told what count a l h =
-      told_each bs cs (field_end n) (λ i p. p) (head_at n) count (λ _ b. entry bs n what b) (λ _ b. entry cs n what b) (λ i b _ m _. entry_told what b m)
+  entries_told : (entry other : ℕ → Read ℕ) → ((a : ℕ) → head_at n ≤ a → Placed a (entry a) (other a)) → (count a : ℕ) → head_at n ≤ a → a ≤ length bs → Placed a (entries entry count a) (entries other count a)
+  entries_told entry other told count a l h =
+      told_each bs cs (field_end n) (λ i p. p) (head_at n) count (λ _ b. entry b) (λ _ b. other b) (λ i b _ m _. told b m)
       count 0 a (omega arith) l h
-
-  -- the end of a thread: ready, pc
-  abbrev ready_pc : List ℕ → ℕ → Read ℕ
-  ready_pc ds ready = past ds ready 1 then λ pc. judged (leb (one ds ready) 1) (Value ready) (past ds pc 4)
 
   ready_told : (b : ℕ) → head_at n ≤ b → Placed b (ready_pc bs b) (ready_pc cs b)
   ready_told b m = passes b 1 _ _ (λ k. value_judged b _ _ _ _ m (λ g. ap (λ v. leb v 1) (same_one (b + 1) b (omega arith) k g)) (last_past (b + 1) 4))
@@ -98,28 +81,15 @@ module _ (bs cs : List ℕ) (n : ℕ) where
   state_told a l =
       passes a 2 _ _ (λ h. name_judged a _ _ _ _
       (λ g. same_name (a + 2) (two cs a) Table (omega arith) h g ∙ ap (λ v. names bs n v Table) (same_two (a + 2) a (omega arith) h g))
-      (told_then bs cs (field_end n) (λ p. p) (λ p. p) (a + 2) (entries bs n Mapping 64 (a + 2)) (entries cs n Mapping 64 (a + 2)) (ready_pc bs) (ready_pc cs)
-      (entries_told Mapping 64 (a + 2) (omega arith) h) (λ b low _ _. ready_told b (omega arith))))
+      (told_then bs cs (field_end n) (λ p. p) (λ p. p) (a + 2) (entries (mapping bs n) 64 (a + 2)) (entries (mapping cs n) 64 (a + 2)) (ready_pc bs) (ready_pc cs)
+      (entries_told (mapping bs n) (mapping cs n) mapping_told 64 (a + 2) (omega arith) h) (λ b low _ _. ready_told b (omega arith))))
 
   -- what object o has
   content_told : (k : Kind) (o a : ℕ) → o < n → head_at n ≤ a → a ≤ length bs → Placed a (content bs n k o a) (content cs n k o a)
-  content_told Pool o a m l h = told_ok bs cs (field_end n) (λ p. p) a a (omega arith) h
-  content_told Table o a m l h =
-      told_same bs cs (field_end n) (λ p. p) a (entries bs n Slot (size_at bs o) a) (entries cs n Slot (size_at bs o) a) (entries cs n Slot (size_at cs o) a)
-      (λ g. ap (λ v. entries cs n Slot v a) (same_two a (head_at o + 1) (omega arith) h g)) (entries_told Slot (size_at bs o) a l h)
-  content_told Port o a m l h = told_ok bs cs (field_end n) (λ p. p) a a (omega arith) h
-  content_told Page o a m l h = last_past a 4096
-  content_told Thread o a m l h = state_told a l
-  content_told Line o a m l h = told_ok bs cs (field_end n) (λ p. p) a a (omega arith) h
+  content_told k o a m l h = grind (arith, told_ok bs cs (field_end n) (λ p. p) a a, last_past a 4096, state_told a, told_same bs cs (field_end n) (λ p. p) a, entries_told (slot bs n) (slot cs n) slot_told (size_at bs o) a, same_two a (head_at o + 1))
 
   part_told : (k : Kind) (o a : ℕ) → o < n → head_at n ≤ a → a ≤ length bs → Placed a (part bs n k o a) (part cs n k o a)
-  part_told k o a m l h =
-      told_same bs cs (field_end n) (λ p. p) a (part bs n k o a) (cond (is_a bs o k) (content cs n k o a) (Ok a)) (part cs n k o a)
-      (λ g. ap (λ v. cond v (content cs n k o a) (Ok a)) (same_kind a o k (omega arith) h g))
-      (elim (cases_Bool (is_a bs o k)) [
-        | inl e ↦ rw e (content_told k o a m l h)
-        | inr e ↦ rw e (told_ok bs cs (field_end n) (λ p. p) a a (omega arith) h)
-      ])
+  part_told k o a m l h = grind (arith, nat_tests, content_told k o a m l h, same_kind a o k)
 
   section_told : (k : Kind) (a : ℕ) → head_at n ≤ a → a ≤ length bs → Placed a (section bs n k a) (section cs n k a)
   section_told k a l h =

@@ -1,10 +1,9 @@
 -- Objects lie apart in the frames.
-use Rattle.std.proofs.Common.{◌≡◌, ℕ, zero, suc, ◌+◌, ◌-◌, ◌*◌, ◌/◌, ◌<◌, ◌≤◌, Bool, true, false, cond, ◌||◌, List, Some, sym, refl, ap, ◌∙◌, subst, arith}
-use Rattle.std.proofs.lemmas.Bool.{cond_both, eqb-true}
+use Rattle.std.proofs.Common.{◌≡◌, ℕ, zero, suc, ◌+◌, ◌-◌, ◌*◌, ◌/◌, ◌<◌, ◌≤◌, Bool, true, cond, List, Some, ap, ◌∙◌, arith}
+use Rattle.std.proofs.lemmas.Bool.{eqb-true}
 use Rattle.std.proofs.lemmas.Bool.Decides.{nat_tests}
 use Rattle.rights.specs.World as world
 use Rattle.rights.specs.declared.kinds.Kind.{Kind}
-use Rattle.rights.specs.declared.kinds.Kind.TheVariants.{Pool, Table, Port, Page, Thread, Line}
 use Rattle.rights.specs.Vocabulary.{kind_number}
 use Rattle.image.specs.Apart.{own_frames, LaidOut, board_sizes, as_cut, LiesApart}
 use Rattle.image.specs.Fields.{one}
@@ -20,27 +19,24 @@ one_more bs (suc k) o u =
     one_more bs k (suc o) (begins bs o u + takes bs o) ∙ ap (λ p. begins bs p (filled bs k (suc o) (begins bs o u + takes bs o)) + takes bs p) e
 
 begins_up : (bs : List ℕ) (o u : ℕ) → u ≤ begins bs o u
-begins_up bs o u = cond_both (is_a bs o Pool || is_a bs o Page) (frame_up u) u (λ v. u ≤ v) (λ _. omega arith) (λ _. omega arith)
+begins_up bs o u = grind (arith, nat_tests)
 
 begins_low : (bs : List ℕ) (o u : ℕ) → begins bs o u ≤ frame_up u
-begins_low bs o u = cond_both (is_a bs o Pool || is_a bs o Page) (frame_up u) u (λ v. v ≤ frame_up u) (λ _. omega arith) (λ _. omega arith)
+begins_low bs o u = grind (arith, nat_tests)
 
 -- what is used after object o
 after_one : (bs : List ℕ) (o : ℕ) → filled bs (suc o) 0 0 ≡ place bs o + takes bs o
 after_one bs o = let e : 0 + o ≡ o = omega arith in one_more bs o 0 0 ∙ ap (λ p. begins bs p (filled bs o 0 0) + takes bs p) e
 
 grows : (bs : List ℕ) (o : ℕ) → filled bs o 0 0 ≤ filled bs (suc o) 0 0
-grows bs o = rw (after_one bs o) (omega (arith, begins_up bs o (filled bs o 0 0)))
+grows bs o = grind (arith, after_one, begins_up)
 
 grows_on : (bs : List ℕ) (o d : ℕ) → filled bs o 0 0 ≤ filled bs (o + d) 0 0
 grows_on bs o zero = let e : o + 0 ≡ o = omega arith in rw e (omega arith)
 grows_on bs o (suc d) = let e : o + suc d ≡ suc (o + d) = omega arith in rw e (omega (arith, grows_on bs o d, grows bs (o + d)))
 
 ends_before : (bs : List ℕ) (o p : ℕ) → o < p → place bs o + takes bs o ≤ filled bs p 0 0
-ends_before bs o p l =
-    let e : suc o + (p - suc o) ≡ p = omega arith in
-    let g : filled bs (suc o) 0 0 ≤ filled bs p 0 0 = subst (λ k. filled bs (suc o) 0 0 ≤ filled bs k 0 0) e (grows_on bs (suc o) (p - suc o)) in
-    rw (after_one bs o) at g
+ends_before bs o p l = grind (arith, after_one, grows_on bs (suc o) (p - suc o))
 
 -- frames that are used, after frames of their own
 few_from : (bs : List ℕ) (k o u s : ℕ) → u ≤ s * 64 → filled bs k o u ≤ (s + own_frames bs k o) * 64
@@ -62,8 +58,7 @@ lies bs =
     }
 
 pick_is : (b : Bool) (x y : ℕ) → world.pick b x y ≡ cond b x y
-pick_is true x y = refl
-pick_is false x y = refl
+pick_is b x y = grind arith
 
 frame_filling : (u : ℕ) → 64 * frame_up u ≡ world.up_to 4096 (64 * u)
 unfolding world.up_to
@@ -80,16 +75,7 @@ is_kind bs o k e = eqb-true (one bs (head_at o)) (kind_number k) e
 as_cut_is : (bs : List ℕ) (o u : ℕ) (k : Kind) → is_a bs o k ≡ true → (w : world.Kind) → as_cut k (size_at bs o) ≡ Some w →
     (64 * takes bs o ≡ world.cost board_sizes w) × (64 * begins bs o u ≡ world.up_to (world.step_of board_sizes w) (64 * u))
 unfolding world.cost world.step_of
-as_cut_is bs o u Pool e w h =
-    let q : world.a_pool (size_at bs o) ≡ w = cc in
-    rw (sym q, is_kind bs o Pool e) (omega arith, frame_filling u)
-as_cut_is bs o u Table e w h =
-    let q : world.a_table (size_at bs o) ≡ w = cc in
-    rw (sym q, is_kind bs o Table e) (omega arith, unit_filling u)
-as_cut_is bs o u Port e w h = let q : world.a_port ≡ w = cc in rw (sym q, is_kind bs o Port e) (refl, unit_filling u)
-as_cut_is bs o u Page e w h = let q : world.a_page ≡ w = cc in rw (sym q, is_kind bs o Page e) (refl, frame_filling u)
-as_cut_is bs o u Thread e w h = absurd (let z : ◌≡◌ {A = ℕ} 0 1 = cc in omega arith)
-as_cut_is bs o u Line e w h = absurd (let z : ◌≡◌ {A = ℕ} 0 1 = cc in omega arith)
+as_cut_is bs o u k e w h = grind (arith, nat_tests, frame_filling, unit_filling)
 
 pub lying : LiesApart
 lying = (lies, λ bs o u k w e h. as_cut_is bs o u k e w h)

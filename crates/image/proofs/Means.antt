@@ -1,13 +1,12 @@
 -- An image that is taken means an allowed world.
-use Rattle.std.proofs.Common.{◌≡◌, ℕ, zero, suc, ◌+◌, ◌-◌, ◌*◌, ◌/◌, ◌<◌, ◌≤◌, min, Bool, true, ◌&&◌, leb, ◌≢◌, List, [], ◌∷◌, length, get_or, Ok, sym, refl, ap, ◌∙◌, subst, inl, inr, arith}
-use lib.Dec.{eqb-suc-zero}
+use Rattle.std.proofs.Common.{◌≡◌, ℕ, zero, suc, ◌+◌, ◌*◌, ◌/◌, ◌<◌, ◌≤◌, min, Bool, true, leb, ◌≢◌, List, [], ◌∷◌, length, get_or, Ok, sym, refl, ap, ◌∙◌, subst, arith}
 use Rattle.std.proofs.lemmas.List.{get_or_past}
-use Rattle.std.proofs.lemmas.Bool.{leb-true, eqb-true, cases_lt, and_parts}
+use Rattle.std.proofs.lemmas.Bool.{leb-true}
 use Rattle.std.proofs.lemmas.Bool.Decides.{nat_tests}
 use Rattle.rights.specs.declared.kinds.Kind.{Kind}
 use Rattle.rights.specs.declared.kinds.Kind.TheVariants.{Table, Page, Thread}
 use Rattle.rights.specs.Vocabulary.{kind_number}
-use Rattle.rights.specs.World.{World, Sizes, Object, Slot, Rights, State, Wait, empty, cap, gone, pool, table, port, page, thread, line, waits, slots_of, object}
+use Rattle.rights.specs.World.{World, Sizes, Object, Slot, Rights, State, empty, cap, gone, pool, table, port, page, thread, line, waits, slots_of, object}
 use Rattle.rights.specs.Promise.{Parted, New, new_pool, new_table, new_port, new_page, new_thread, new_line, Fits, threads, lines}
 use Rattle.rv32.specs.declared.registers.Cpu.{Cpu}
 use Rattle.rv32.specs.Registers.{fresh}
@@ -15,54 +14,36 @@ use Rattle.rv32.specs.Execute.{act}
 use Rattle.image.specs.declared.census.Census.{Census}
 use Rattle.image.specs.declared.census.Kinds.{Kinds}
 use Rattle.image.specs.Fields.{one, two}
-use Rattle.image.specs.Format.{head_at, names, is_a, magic, count, headers, body, section}
+use Rattle.image.specs.Format.{head_at, names, magic, count, headers, body, section}
 use Rattle.image.specs.Layout.{frames_for}
-use Rattle.image.specs.Meaning.{pairs, Places, objects_from, objects_of, births_all, world_of, ready_mark, state_of, kind_of, frames}
+use Rattle.std.specs.List.{zip}
+use Rattle.image.specs.Meaning.{Places, objects_from, objects_of, births_all, world_of, kind_of, frames}
 use Rattle.image.specs.Verdict.{verdict}
 use Rattle.image.specs.Allowed.{MeansAllowed}
+use Rattle.image.proofs.Decided.{count_back}
 use Rattle.image.proofs.Sized.{then_back, judged_back}
 use Rattle.image.proofs.Stands.{Alls, alls_at}
 use Rattle.image.proofs.Slots.{GoodSlot}
 use Rattle.image.proofs.Spaces.{GoodMap}
-use Rattle.image.proofs.Births.{no_cap, Orders, range, once, all_up}
+use Rattle.image.proofs.Births.{Orders, range, once, all_up}
 use Rattle.image.proofs.Objects.{Good, Placed, fills}
 use Rattle.image.proofs.Sound.{ObjectsRead, objects_read}
 
 names_back : (bs : List ℕ) (n u : ℕ) (K : Kind) → names bs n (suc u) K ≡ true → (u < n) × (one bs (head_at u) ≡ kind_number K)
-names_back bs n u K e =
-    let q : suc u - 1 ≡ u = omega arith in
-    let f : (leb (suc u) n && is_a bs (suc u - 1) K) ≡ true = rw (eqb-suc-zero u) at e in
-    let p = and_parts (leb (suc u) n) (is_a bs (suc u - 1) K) f in
-    (leb-true (suc u) n p.0, subst (λ v. one bs (head_at v) ≡ kind_number K) q (eqb-true (one bs (head_at (suc u - 1))) (kind_number K) p.1))
+names_back bs n u K e = grind (arith, nat_tests)
 
-maps_at : (bs : List ℕ) (n : ℕ) (ps : List ℕ) (rs : List Bool) (i k u : ℕ) → length ps ≡ length rs → Alls (GoodMap bs n) i (pairs ps rs) → get_or ps k 0 ≡ suc u → names bs n (suc u) Page ≡ true
-unfolding pairs
+maps_at : (bs : List ℕ) (n : ℕ) (ps : List ℕ) (rs : List Bool) (i k u : ℕ) → length ps ≡ length rs → Alls (GoodMap bs n) i (zip ps rs) → get_or ps k 0 ≡ suc u → names bs n (suc u) Page ≡ true
 maps_at bs n [] rs i k u e g h = absurd (omega (arith, h))
 maps_at bs n (p ∷ ps) [] i k u e g h = absurd (omega (arith, e))
 maps_at bs n (p ∷ ps) (r ∷ rs) i zero u e g h = subst (λ v. names bs n v Page ≡ true) h g.0.1
 maps_at bs n (p ∷ ps) (r ∷ rs) i (suc k) u e g h = maps_at bs n ps rs (suc i) k u (omega (arith, e)) g.1 h
 
-asleep : (u : ℕ) (k : List ℕ → Cpu) → state_of (ready_mark (waits u k)) ≡ waits u k → ⊥
-asleep u k e = let q : ◌≡◌ {A = ℕ} 0 1 = cc in omega arith
-
 -- the kind of an object tells what it is
 a_table : (x : Object Cpu) → kind_of x ≡ 1 → (g : ℕ) × (ss : List Slot) × (x ≡ table g ss)
-a_table gone e = absurd (omega (arith, e))
-a_table (pool f k u) e = absurd (omega (arith, e))
-a_table (table f ss) e = (f, ss, refl)
-a_table (port f ws) e = absurd (omega (arith, e))
-a_table (page f ys) e = absurd (omega (arith, e))
-a_table (thread f s c t ps rs) e = absurd (omega (arith, e))
-a_table (line ys zs) e = absurd (omega (arith, e))
+a_table x e = grind arith
 
 a_page : (x : Object Cpu) → kind_of x ≡ 3 → (g : ℕ) × (xs : List ℕ) × (x ≡ page g xs)
-a_page gone e = absurd (omega (arith, e))
-a_page (pool f k u) e = absurd (omega (arith, e))
-a_page (table f ss) e = absurd (omega (arith, e))
-a_page (port f ws) e = absurd (omega (arith, e))
-a_page (page f ys) e = (f, ys, refl)
-a_page (thread f s c t ps rs) e = absurd (omega (arith, e))
-a_page (line ys zs) e = absurd (omega (arith, e))
+a_page x e = grind arith
 
 -- objects that an image can carry are new
 module _ (z : Sizes) (zb : z.bytes ≡ 4096) (zp : z.pages ≡ 64) (bs : List ℕ) (n : ℕ) where
@@ -73,39 +54,17 @@ module _ (z : Sizes) (zb : z.bytes ≡ 4096) (zp : z.pages ≡ 64) (bs : List �
   new_from gone g = absurd g
   new_from (pool f k u) g =
       let e : (k / 4096) * z.bytes ≡ k = rw zb g.2 in
-      let a : Fresh (pool 0 ((k / 4096) * z.bytes) 0) = new_pool g.3 g.4 in
-      let b : Fresh (pool 0 k 0) = subst (λ m. Fresh (pool 0 m 0)) e a in
-      let d : Fresh (pool f k 0) = subst (λ m. Fresh (pool m k 0)) (sym g.0) b in
-      subst (λ m. Fresh (pool f k m)) (sym g.1) d
-  new_from (table f ss) g = subst (λ m. Fresh (table m ss)) (sym g.0) (new_table g.1 g.2)
-  new_from (port f ws) g =
-      let a : Fresh (port 0 []) = new_port in
-      let b : Fresh (port 0 ws) = subst (λ (m : List Wait). Fresh (port 0 m)) (sym g.1) a in
-      subst (λ m. Fresh (port m ws)) (sym g.0) b
-  new_from (page f ys) g = subst (λ m. Fresh (page m ys)) (sym g.0) (new_page (g.1 ∙ sym zb) g.2)
-  new_from (thread f s c t ps rs) g =
-      let a : Fresh (thread 0 s (fresh c.pc) t ps rs) = new_thread (g.6 ∙ sym zp) (g.7 ∙ sym zp) g.3 in
-      let b : Fresh (thread 0 s c t ps rs) = subst (λ (m : Cpu). Fresh (thread 0 s m t ps rs)) g.2 a in
-      subst (λ m. Fresh (thread m s c t ps rs)) (sym g.0) b
-  new_from (line ys zs) g =
-      let a : Fresh (line [] []) = new_line in
-      let b : Fresh (line ys []) = subst (λ (m : List ℕ). Fresh (line m [])) (sym g.0) a in
-      subst (λ (m : List ℕ). Fresh (line ys m)) (sym g.1) b
+      rw (g.0, g.1) (subst (λ m. Fresh (pool 0 m 0)) e (new_pool g.3 g.4))
+  new_from (table f ss) g = rw g.0 (new_table g.1 g.2)
+  new_from (port f ws) g = rw (g.0, g.1) new_port
+  new_from (page f ys) g = rw g.0 (new_page (g.1 ∙ sym zb) g.2)
+  new_from (thread f s c t ps rs) g = rw (g.0, ← g.2) (new_thread (g.6 ∙ sym zp) (g.7 ∙ sym zp) g.3)
+  new_from (line ys zs) g = rw (g.0, g.1) new_line
 
 slot_fact : (bs : List ℕ) (n : ℕ) (x : Object Cpu) → Good bs n x → (i u b j m : ℕ) (r : Rights) → get_or (slots_of Cpu fresh act x) i empty ≡ cap u r b j m
     → (u < n) × (b < 4294967296) × (m ≡ 0)
 unfolding slots_of
-slot_fact bs n gone g i u b j m r e = absurd (no_cap u b j m r e)
-slot_fact bs n (pool f k v) g i u b j m r e = absurd (no_cap u b j m r e)
-slot_fact bs n (table f ss) g i u b j m r e =
-    elim (cases_lt i (length ss)) [
-      | inl l ↦ subst (λ (s : Slot). GoodSlot n (0 + i) s) e (alls_at (GoodSlot n) empty ss 0 i g.3 l)
-      | inr l ↦ absurd (no_cap u b j m r (sym (get_or_past ss i empty l) ∙ e))
-    ]
-slot_fact bs n (port f ws) g i u b j m r e = absurd (no_cap u b j m r e)
-slot_fact bs n (page f ys) g i u b j m r e = absurd (no_cap u b j m r e)
-slot_fact bs n (thread f s c t ps rs) g i u b j m r e = absurd (no_cap u b j m r e)
-slot_fact bs n (line ys zs) g i u b j m r e = absurd (no_cap u b j m r e)
+slot_fact bs n x g i u b j m r e = grind (arith, alls_at (GoodSlot n) empty, get_or_past)
 
 -- a world of objects that an image can carry
 module _ (bs : List ℕ) (n : ℕ) (w : World Cpu) (long : length w.objects ≡ n) (all_Placed : Alls (Placed bs n) 0 w.objects) (orders : Orders 0 w.objects)
@@ -128,21 +87,14 @@ module _ (bs : List ℕ) (n : ℕ) (w : World Cpu) (long : length w.objects ≡ 
 
   -- an object that is there is good
   there : (o : ℕ) (x : Object Cpu) → its o ≡ x → x ≢ gone → Good bs n x
-  there o x e h = elim (cases_lt o n) [ inl l ↦ subst (λ y. Good bs n y) e (placed_at o l).1 | inr l ↦ absurd (h (sym e ∙ past_end o l)) ]
-
-  no_slots : (i u b j m : ℕ) (r : Rights) → get_or (slots_of Cpu fresh act gone) i empty ≡ cap u r b j m → ⊥
-  unfolding slots_of
-  no_slots i u b j m r e = no_cap u b j m r e
+  there o x e h = grind (arith, placed_at o, past_end o)
 
   slot_there : (o i u b j m : ℕ) (r : Rights) → get_or (slots_of Cpu fresh act (its o)) i empty ≡ cap u r b j m → (u < n) × (b < 4294967296) × (m ≡ 0)
-  slot_there o i u b j m r e =
-      elim (cases_lt o n) [
-        | inl l ↦ slot_fact bs n (its o) (placed_at o l).1 i u b j m r e
-        | inr l ↦ absurd (no_slots i u b j m r (subst (λ x. get_or (slots_of Cpu fresh act x) i empty ≡ cap u r b j m) (past_end o l) e))
-      ]
+  unfolding slots_of
+  slot_there o i u b j m r e = grind (arith, placed_at o, past_end o, slot_fact bs n (its o))
 
   thread_there : (o f t : ℕ) (s : State Cpu) (c : Cpu) (ps : List ℕ) (rs : List Bool) → its o ≡ thread f s c t ps rs → Good bs n (thread f s c t ps rs)
-  thread_there o f t s c ps rs e = there o (thread f s c t ps rs) e (λ h. let q : ◌≡◌ {A = ℕ} 0 1 = cc in omega arith)
+  thread_there o f t s c ps rs e = there o (thread f s c t ps rs) e (λ h. cc)
 
   table_named : (o f t : ℕ) (s : State Cpu) (c : Cpu) (ps : List ℕ) (rs : List Bool) → its o ≡ thread f s c (suc t) ps rs → (t < n) × (one bs (head_at t) ≡ 1)
   table_named o f t s c ps rs e = names_back bs n t Table (thread_there o f (suc t) s c ps rs e).5
@@ -161,8 +113,8 @@ module _ (bs : List ℕ) (n : ℕ) (w : World Cpu) (long : length w.objects ≡ 
     once = λ o i u b j m p k v c l r q e f. once 0 w.objects orders o i u b j m p k v c l r q e f;
     born = λ o i u b j m r e. let s = range 0 w.objects orders o i u b j m r e in (omega (arith, s.0), omega (arith, s.1, births_are));
     nothing_made = no_lineage;
-    calm = λ o f ws e. (there o (port f ws) e (λ h. let q : ◌≡◌ {A = ℕ} 0 1 = cc in omega arith)).1;
-    awake = λ o f t u c ps rs k e. asleep u k (thread_there o f t (waits u k) c ps rs e).1;
+    calm = λ o f ws e. (there o (port f ws) e (λ h. cc)).1;
+    awake = λ o f t u c ps rs k e. let h = (thread_there o f t (waits u k) c ps rs e).1 in cc;
   }
 
   pub all_new : (z : Sizes) → z.bytes ≡ 4096 → z.pages ≡ 64 → (o : ℕ) → o < length w.objects → New Cpu fresh act z (its o)
@@ -176,9 +128,6 @@ module _ (bs : List ℕ) (n : ℕ) (w : World Cpu) (long : length w.objects ≡ 
     its_table = λ o f t s c ps rs e. let m = table_named o f t s c ps rs e in a_table (its t) (sym (placed_at t m.0).0.0 ∙ m.1);
     its_pages = λ o f t k u s c ps rs e h. let m = page_named o f t k u s c ps rs e h in a_page (its u) (sym (placed_at u m.0).0.0 ∙ m.1);
   }
-
-count_fine : (bs : List ℕ) (n : ℕ) → count bs ≡ Ok n → (two bs 4 ≡ n) × (n ≤ 1000)
-count_fine bs n e = grind (arith, nat_tests)
 
 -- what was read of an image that is taken
 record ReadThrough (ks : Kinds) (bs : List ℕ) (n p h end : ℕ) (c : Census) : Type 0 where
@@ -195,7 +144,7 @@ read_through ks lent bs c v =
     let a = then_back (magic bs) _ c v in
     let b = then_back (count bs) _ c a.2 in
     let n : ℕ = b.0 in
-    let k = count_fine bs n b.1 in
+    let k = count_back bs n b.1 in
     let d = then_back (headers ks bs n) _ c b.2 in
     let e = then_back (body bs n) _ c d.2 in
     let f = judged_back (leb (length bs) e.0) _ _ c e.2 in
@@ -208,7 +157,7 @@ read_through ks lent bs c v =
       u.0,
       e.0,
       record {
-        number_is = k.0;
+        number_is = sym k.0;
         few = k.1;
         headers_are = d.1 ∙ ap Ok m;
         tables_are = t.1;

@@ -35,7 +35,7 @@ a_thread : (bs : List ℕ) (o : ℕ) → o < two bs 4 → one bs (head_at o) ≡
 a_thread bs o l e = let r = object_is bs o l in let f : object_at bs o r.0 ≡ read_as bs o r.0 (Some Thread) = rw e refl in (_, _, _, _, _, r.1 ∙ f)
 
 a_line : (bs : List ℕ) (o : ℕ) → o < two bs 4 → one bs (head_at o) ≡ 5 → object Cpu fresh act (world_of bs) o ≡ line [] []
-a_line bs o l e = let r = object_is bs o l in r.1 ∙ (rw e refl)
+a_line bs o l e = grind (arith, nat_tests, object_is bs o l)
 
 -- what was read of an event
 tick_back : (bs es : List ℕ) (n at b : ℕ) → one es at ≡ 0 → event bs n es at ≡ Ok b → (two es (at + 1) < n) × (one bs (head_at (two es (at + 1))) ≡ 4) × (b ≡ at + 3)

@@ -1,30 +1,26 @@
 -- Objects that an image can carry, and where they stand in it.
-use Rattle.std.proofs.Common.{◌≡◌, ℕ, suc, ◌+◌, ◌*◌, ◌/◌, ◌<◌, ◌≤◌, true, List, [], ◌∷◌, length, get_or, Some, Ok, sym, refl, ap, ◌∙◌, subst, inl, inr, add-zero, arith}
-use Rattle.std.proofs.lemmas.Bool.{eq-eqb, ne_eqb, cases_eq}
+use Rattle.std.proofs.Common.{◌≡◌, ℕ, suc, ◌+◌, ◌*◌, ◌/◌, ◌<◌, ◌≤◌, true, List, [], ◌∷◌, length, get_or, Some, Ok, sym, refl, ap, ◌∙◌, subst, add-zero, arith}
 use Rattle.rights.specs.declared.kinds.Kind.{Kind}
 use Rattle.rights.specs.declared.kinds.Kind.TheVariants.{Pool, Table, Port, Page, Thread, Line}
 use Rattle.rights.specs.Vocabulary.{kind_number, kind_from}
-use Rattle.rights.specs.World.{Object, State, gone, pool, table, port, page, thread, line, stopped, ready, waits, slots_of}
+use Rattle.rights.specs.World.{Object, State, gone, pool, table, port, page, thread, line, slots_of}
 use Rattle.rv32.specs.declared.registers.Cpu.{Cpu}
 use Rattle.rv32.specs.Registers.{fresh}
 use Rattle.rv32.specs.Execute.{act}
+use Rattle.std.proofs.lemmas.Bool.Decides.{nat_tests}
 use Rattle.image.specs.declared.census.Kinds.{Kinds}
 use Rattle.image.specs.Fields.{one, two}
 use Rattle.image.specs.Format.{lets_in, head_at, size_at, names, content, part}
 use Rattle.image.specs.Layout.{begins, takes, filled}
-use Rattle.image.specs.Meaning.{two_bytes, pairs, Places, state_of, object_at, ready_mark, kind_of, size_of, header_bytes, content_bytes, part_bytes, begins_at, takes_up, filled_by}
+use Rattle.std.specs.List.{zip}
+use Rattle.image.specs.Meaning.{two_bytes, Places, state_of, object_at, ready_mark, kind_of, size_of, header_bytes, content_bytes, part_bytes, begins_at, takes_up, filled_by}
 use Rattle.image.proofs.Stands.{At, Alls, at_len, at_two, past_fine}
 use Rattle.image.proofs.Slots.{GoodSlot, Orderly, slots_fine, slots_back}
 use Rattle.image.proofs.Spaces.{GoodMap, thread_read, thread_length, space_fine, pairs_length, maps_back, bytes_back, state_ok}
 
 -- kinds and their numbers
 pub kind_known : (k : Kind) → kind_from (kind_number k) ≡ Some k
-kind_known Pool = refl
-kind_known Table = refl
-kind_known Port = refl
-kind_known Page = refl
-kind_known Thread = refl
-kind_known Line = refl
+kind_known k = grind arith
 
 kind_same : (j k : Kind) → kind_number j ≡ kind_number k → j ≡ k
 kind_same j k e = let q : Some j ≡ Some k = sym (kind_known j) ∙ (ap kind_from e ∙ kind_known k) in cc
@@ -48,9 +44,7 @@ head_read bs o k s l h =
     record { kind_is = h.0; size_is = at_two bs (head_at o + 1) s l h.1; room = omega (arith, e) }
 
 mark_low : (s : State Cpu) → ready_mark s ≤ 1
-mark_low stopped = omega arith
-mark_low ready = omega arith
-mark_low (waits o k) = omega arith
+mark_low s = grind arith
 
 module _ (bs : List ℕ) (n : ℕ) where
   -- what an image of n objects can carry of an object
@@ -62,7 +56,7 @@ module _ (bs : List ℕ) (n : ℕ) where
   Good (page f xs) = (f ≡ 0) × (length xs ≡ 4096) × ((k : ℕ) → get_or xs k 0 < 256)
   Good (thread f s c t ps rs) =
       (f ≡ 0) × (state_of (ready_mark s) ≡ s) × (fresh c.pc ≡ c) × (c.pc < 4294967296) × (t < 65536) × (names bs n t Table ≡ true)
-      × (length ps ≡ 64) × (length rs ≡ 64) × Alls (GoodMap bs n) 0 (pairs ps rs)
+      × (length ps ≡ 64) × (length rs ≡ 64) × Alls (GoodMap bs n) 0 (zip ps rs)
   Good (line xs ys) = (xs ≡ []) × (ys ≡ [])
 
   -- and its header stands where it should
@@ -70,27 +64,14 @@ module _ (bs : List ℕ) (n : ℕ) where
   Placed i x = At bs (head_at i) (header_bytes x) × Good x
 
   pub size_low : (x : Object Cpu) → Good x → size_of x ≤ 4096
-  size_low gone g = omega arith
-  size_low (pool f k u) g = g.4
-  size_low (table f ss) g = g.2
-  size_low (port f ws) g = omega arith
-  size_low (page f xs) g = omega arith
-  size_low (thread f s c t ps rs) g = omega arith
-  size_low (line xs ys) g = omega arith
+  size_low x g = grind arith
 
   pub its_header : (i : ℕ) (x : Object Cpu) → Placed i x → HeadAt bs i (kind_of x) (size_of x)
   its_header i x p = head_read bs i (kind_of x) (size_of x) (omega (arith, size_low x p.1)) p.0
 
   -- the frames that the image asks for are those that the objects take
   one_fills : (o u : ℕ) (x : Object Cpu) → Placed o x → begins bs o u + takes bs o ≡ begins_at x u + takes_up x
-  one_fills o u gone p = absurd p.1
-  one_fills o u (pool f k v) p =
-      let h = its_header o (pool f k v) p in let e : k / 4096 * 64 ≡ k / 64 = omega (arith, p.1.2) in rw (h.kind_is, h.size_is, e)
-  one_fills o u (table f ss) p = let h = its_header o (table f ss) p in rw (h.kind_is, h.size_is)
-  one_fills o u (port f ws) p = rw p.0.0
-  one_fills o u (page f ys) p = rw p.0.0
-  one_fills o u (thread f s c t ps rs) p = rw p.0.0
-  one_fills o u (line ys zs) p = rw p.0.0
+  one_fills o u x p = grind (arith, nat_tests, its_header o x p)
 
   pub fills : (xs : List (Object Cpu)) (o u : ℕ) → Alls Placed o xs → filled bs (length xs) o u ≡ filled_by xs u
   unfolding filled filled_by
@@ -100,15 +81,7 @@ module _ (bs : List ℕ) (n : ℕ) where
   -- in the section of a kind an object has its content, or nothing
   part_of : (k K : Kind) (i a : ℕ) (x : Object Cpu) → one bs (head_at i) ≡ kind_number K → kind_of x ≡ kind_number K →
       (At bs a (content_bytes x) → content bs n K i a ≡ Ok (a + length (content_bytes x))) → At bs a (part_bytes k x) → part bs n k i a ≡ Ok (a + length (part_bytes k x))
-  part_of k K i a x h e c st =
-      elim (cases_eq (kind_number K) (kind_number k)) [
-        | inl z ↦
-            (let t : part_bytes k x ≡ content_bytes x = rw (e, eq-eqb (kind_number K) (kind_number k) z) in
-            let m : part bs n k i a ≡ content bs n k i a = rw (h, eq-eqb (kind_number K) (kind_number k) z) in
-            let y = c (subst (λ xs. At bs a xs) t st) in
-            m ∙ (subst (λ j. content bs n j i a ≡ Ok (a + length (content_bytes x))) (kind_same K k z) y ∙ ap (λ xs. Ok (a + length xs)) (sym t)))
-        | inr z ↦ rw (h, e, ne_eqb (kind_number K) (kind_number k) z, add-zero)
-      ]
+  part_of k K i a x h e c st = grind (arith, nat_tests, c)
 
 module _ (bs : List ℕ) (n : ℕ) (few : n ≤ 1000) where
   -- readers get over what objects have
@@ -130,8 +103,8 @@ module _ (bs : List ℕ) (n : ℕ) (few : n ≤ 1000) where
           let q = thread_read bs a t (ready_mark s) c.pc ps rs p.1.4 p.1.3 e y in
           let w : names bs n (two bs a) Table ≡ true = rw q.table_is p.1.5 in
           let r : (a + 2) + 192 ≡ a + 194 = omega arith in
-          let v = space_fine bs n (a + 2) (pairs ps rs) e p.1.8 q.space_at in
-          state_ok bs n a q.room w (v ∙ ap Ok r) (omega (arith, q.mark_is, mark_low s)) ∙ ap (λ m. Ok (a + m)) (sym (thread_length t (ready_mark s) c.pc (pairs ps rs) e))
+          let v = space_fine bs n (a + 2) (zip ps rs) e p.1.8 q.space_at in
+          state_ok bs n a q.room w (v ∙ ap Ok r) (omega (arith, q.mark_is, mark_low s)) ∙ ap (λ m. Ok (a + m)) (sym (thread_length t (ready_mark s) c.pc (zip ps rs) e))
   part_step k i a (line xs ys) p h = part_of bs n k Line i a (line xs ys) p.0.0 refl (λ _. rw add-zero) h
 
   -- each object is read as what it was

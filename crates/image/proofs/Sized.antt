@@ -1,32 +1,28 @@
 -- The length of an image that is taken.
-use Rattle.std.proofs.Common.{◌≡◌, ℕ, zero, suc, ◌+◌, ◌*◌, ◌<◌, ◌≤◌, Bool, true, false, cond, leb, List, length, Ok, Err, refl, ap, ◌∙◌, subst, inl, inr, arith}
-use Rattle.std.proofs.lemmas.Bool.{cases_Bool, cases_lt, lt-leb}
+use Rattle.std.proofs.Common.{◌≡◌, ℕ, zero, suc, ◌+◌, ◌*◌, ◌≤◌, Bool, true, cond, List, length, Ok, Err, refl, ap, ◌∙◌, subst, arith}
 use Rattle.std.proofs.lemmas.Bool.Decides.{nat_tests}
 use Rattle.rights.specs.declared.kinds.Kind.{Kind}
 use Rattle.rights.specs.declared.kinds.Kind.TheVariants.{Pool, Table, Port, Page, Thread, Line}
 use Rattle.rights.specs.declared.refusals.Refusal.{Refusal}
-use Rattle.rights.specs.declared.refusals.Refusal.TheVariants.{Length, Value, Name}
 use Rattle.image.specs.declared.census.Census.{Census}
 use Rattle.image.specs.declared.census.Kinds.{Kinds}
-use Rattle.image.specs.declared.content.Entry.{Entry}
-use Rattle.image.specs.declared.content.Entry.TheVariants.{Slot, Mapping}
-use Rattle.image.specs.Fields.{one, two, Read, ◌then◌, past, judged, each}
-use Rattle.image.specs.Format.{head_at, is_a, size_at, names, slot, mapping, entry, entries, state, content, part, section, body, magic, count, headers}
+use Rattle.image.specs.Fields.{two, Read, ◌then◌, past, judged, each}
+use Rattle.image.specs.Format.{head_at, is_a, size_at, names, slot, mapping, entries, state, content, part, section, body, count}
 use Rattle.image.specs.Prefix.{SameBelow, field_end, content_length, content_lengths, LengthByHeaders, OneLength}
-use Rattle.image.proofs.Decided.{Reading, reading, finish, verdict_is, reading_told}
+use Rattle.image.proofs.Decided.{count_back, Reading, reading, finish, verdict_is, reading_told}
+use Rattle.image.proofs.Early.{ready_pc, same_one}
 use Rattle.image.proofs.Told.{Told}
 
 -- a reader that went on, and what it went on from
 pub then_back : {A B : Type 0} (r : Read A) (f : A → Read B) (b : B) → r then f ≡ Ok b → (a : A) × (r ≡ Ok a) × (f a ≡ Ok b)
 then_back (Ok a) f b e = (a, refl, e)
-then_back (Err d) f b e = absurd (let z : ◌≡◌ {A = ℕ} 0 1 = cc in omega arith)
+then_back (Err d) f b e = cc
 
 pub past_back : (bs : List ℕ) (at n b : ℕ) → past bs at n ≡ Ok b → (at + n ≤ length bs) × (b ≡ at + n)
 past_back bs at n b e = grind (arith, nat_tests)
 
 pub judged_back : {A : Type 0} (t : Bool) (e : Refusal) (r : Read A) (b : A) → judged t e r ≡ Ok b → (t ≡ true) × (r ≡ Ok b)
-judged_back true e r b q = (refl, q)
-judged_back false e r b q = absurd (let z : ◌≡◌ {A = ℕ} 0 1 = cc in omega arith)
+judged_back t e r b q = grind arith
 
 -- how much k readers from i on add, if reader i adds g i
 unfoldable added : (ℕ → ℕ) → ℕ → ℕ → ℕ
@@ -47,41 +43,23 @@ unfolding added
 added_same w zero i = omega arith
 added_same w (suc k) i = let h = added_same w k (suc i) in omega (arith, h)
 
-slot_adds : (bs : List ℕ) (n a b : ℕ) → slot bs n a ≡ Ok b → b ≡ a + 7
-slot_adds bs n a b e = grind (arith, nat_tests)
+pub slot_back : (bs : List ℕ) (n a b : ℕ) → slot bs n a ≡ Ok b → (two bs a ≤ n) × (b ≡ a + 7)
+slot_back bs n a b e = grind (arith, nat_tests)
 
-mapping_adds : (bs : List ℕ) (n a b : ℕ) → mapping bs n a ≡ Ok b → b ≡ a + 3
-mapping_adds bs n a b e = grind (arith, nat_tests)
+pub mapping_back : (bs : List ℕ) (n a b : ℕ) → mapping bs n a ≡ Ok b → (names bs n (two bs a) Page ≡ true) × (b ≡ a + 3)
+mapping_back bs n a b e = grind (arith, nat_tests)
 
-entry_width : Entry → ℕ
-entry_width Slot = 7
-entry_width Mapping = 3
-
-entry_adds : (bs : List ℕ) (n : ℕ) (what : Entry) (a b : ℕ) → entry bs n what a ≡ Ok b → b ≡ a + entry_width what
-unfolding entry_width
-entry_adds bs n Slot a b e = slot_adds bs n a b e
-entry_adds bs n Mapping a b e = mapping_adds bs n a b e
-
-entries_add : (bs : List ℕ) (n : ℕ) (what : Entry) (count a b : ℕ) → entries bs n what count a ≡ Ok b → b ≡ a + count * entry_width what
-entries_add bs n what count a b e =
-    let h = each_adds (λ _ p. entry bs n what p) (λ _. entry_width what) (λ i p q. entry_adds bs n what p q) count 0 a b e in
-    let s = added_same (entry_width what) count 0 in
+entries_add : (entry : ℕ → Read ℕ) (width : ℕ) → ((a b : ℕ) → entry a ≡ Ok b → b ≡ a + width) → (count a b : ℕ) → entries entry count a ≡ Ok b → b ≡ a + count * width
+entries_add entry width adds count a b e =
+    let h = each_adds (λ _ p. entry p) (λ _. width) (λ i p q. adds p q) count 0 a b e in
+    let s = added_same width count 0 in
     omega (arith, h, s)
-
--- the end of a thread: ready, pc
-abbrev ready_pc : List ℕ → ℕ → Read ℕ
-ready_pc bs ready = past bs ready 1 then λ pc. judged (leb (one bs ready) 1) (Value ready) (past bs pc 4)
 
 ready_adds : (bs : List ℕ) (a b : ℕ) → ready_pc bs a ≡ Ok b → b ≡ a + 5
 ready_adds bs a b e = grind (arith, nat_tests)
 
 state_adds : (bs : List ℕ) (n a b : ℕ) → state bs n a ≡ Ok b → b ≡ a + 199
-unfolding entry_width
-state_adds bs n a b e =
-    let t = then_back (past bs a 2) (λ space. judged (names bs n (two bs a) Table) (Name a) (entries bs n Mapping 64 space then ready_pc bs)) b e in
-    let j = judged_back (names bs n (two bs a) Table) (Name a) (entries bs n Mapping 64 t.0 then ready_pc bs) b t.2 in
-    let s = then_back (entries bs n Mapping 64 t.0) (ready_pc bs) b j.1 in
-    omega (arith, (past_back bs a 2 t.0 t.1).1, entries_add bs n Mapping 64 t.0 s.0 s.1, ready_adds bs s.0 b s.2)
+state_adds bs n a b e = grind (arith, nat_tests, entries_add (mapping bs n) 3 (λ p q f. (mapping_back bs n p q f).1) 64, ready_adds bs)
 
 -- how many bytes object o has, if it is of a kind
 abbrev of_kind : List ℕ → Kind → ℕ → ℕ
@@ -93,23 +71,13 @@ of_kind bs Thread o = 199
 of_kind bs Line o = 0
 
 content_adds : (bs : List ℕ) (n : ℕ) (k : Kind) (o a b : ℕ) → content bs n k o a ≡ Ok b → b ≡ a + of_kind bs k o
-unfolding entry_width
-content_adds bs n Pool o a b e = let z : a ≡ b = cc in omega (arith, z)
-content_adds bs n Table o a b e = omega (arith, entries_add bs n Slot (size_at bs o) a b e)
-content_adds bs n Port o a b e = let z : a ≡ b = cc in omega (arith, z)
-content_adds bs n Page o a b e = (past_back bs a 4096 b e).1
-content_adds bs n Thread o a b e = state_adds bs n a b e
-content_adds bs n Line o a b e = let z : a ≡ b = cc in omega (arith, z)
+content_adds bs n k o a b e = grind (arith, nat_tests, entries_add (slot bs n) 7 (λ p q f. (slot_back bs n p q f).1) (size_at bs o) a b, state_adds bs n a b)
 
 abbrev share : List ℕ → Kind → ℕ → ℕ
 share bs k o = cond (is_a bs o k) (of_kind bs k o) 0
 
 part_adds : (bs : List ℕ) (n : ℕ) (k : Kind) (o a b : ℕ) → part bs n k o a ≡ Ok b → b ≡ a + share bs k o
-part_adds bs n k o a b e =
-    elim (cases_Bool (is_a bs o k)) [
-      | inl t ↦ rw t (content_adds bs n k o a b (rw t at e))
-      | inr t ↦ (let q : Ok a ≡ Ok b = rw t at e in let z : a ≡ b = cc in rw t (omega (arith, z)))
-    ]
+part_adds bs n k o a b e = grind (arith, nat_tests, content_adds bs n k o a b)
 
 section_adds : (bs : List ℕ) (n : ℕ) (k : Kind) (a b : ℕ) → section bs n k a ≡ Ok b → b ≡ a + added (share bs k) n 0
 section_adds bs n k a b e = each_adds (part bs n k) (share bs k) (part_adds bs n k) n 0 a b e
@@ -123,31 +91,14 @@ all_shares bs zero o = refl
 all_shares bs (suc k) o = let s = shares bs o in let h = all_shares bs k (suc o) in omega (arith, s, h)
 
 body_adds : (bs : List ℕ) (n b : ℕ) → body bs n ≡ Ok b → b ≡ head_at n + content_lengths bs n 0
-body_adds bs n b e =
-    let t = then_back (section bs n Table (head_at n)) _ b e in
-    let s = then_back (section bs n Page t.0) _ b t.2 in
-    omega (arith, section_adds bs n Table (head_at n) t.0 t.1, section_adds bs n Page t.0 s.0 s.1, section_adds bs n Thread s.0 b s.2, all_shares bs n 0)
-
-count_back : (bs : List ℕ) (n : ℕ) → count bs ≡ Ok n → n ≡ two bs 4
-count_back bs n e = grind (arith, nat_tests)
+body_adds bs n b e = grind (arith, section_adds bs n, all_shares bs n 0)
 
 -- what the fields were, if all could be read
 reading_adds : (ks : Kinds) (bs : List ℕ) (x : Reading) → reading ks bs ≡ Ok x → x.2 ≡ head_at (two bs 4) + content_lengths bs (two bs 4) 0
-reading_adds ks bs x e =
-    let m = then_back (magic bs) _ x e in
-    let n = then_back (count bs) _ x m.2 in
-    let h = then_back (headers ks bs n.0) _ x n.2 in
-    let b = then_back (body bs n.0) _ x h.2 in
-    let z : x.2 ≡ b.0 = cc b.2 in
-    let y = body_adds bs n.0 b.0 b.1 in
-    z ∙ y ∙ ap (λ k. head_at k + content_lengths bs k 0) (count_back bs n.0 n.1)
+reading_adds ks bs x e = grind (arith, nat_tests, count_back bs, body_adds bs)
 
 ended : (frames : ℕ) (bs : List ℕ) (x : Reading) (c : Census) → finish frames bs x ≡ Ok c → length bs ≤ x.2
-ended frames bs x c e =
-    elim (cases_lt x.2 (length bs)) [
-      | inl l ↦ absurd (let q : Err (Length x.2) ≡ Ok c = rw (lt-leb (length bs) x.2 l) at e in let z : ◌≡◌ {A = ℕ} 0 1 = cc in omega arith)
-      | inr l ↦ l
-    ]
+ended frames bs x c e = grind (arith, nat_tests)
 
 pub length_by_headers : LengthByHeaders
 length_by_headers ks frames bs c v =
@@ -158,12 +109,8 @@ length_by_headers ks frames bs c v =
     omega (arith, w.1, l, a)
 
 -- the headers say the same of both
-same_header : (bs cs : List ℕ) (q k : ℕ) → k < q → q ≤ length bs → SameBelow q bs cs → one cs k ≡ one bs k
-same_header bs cs q k l h g = (g k l (omega arith)).1
-
 same_content : (bs cs : List ℕ) (q o : ℕ) → head_at (suc o) ≤ q → q ≤ length bs → SameBelow q bs cs → content_length cs o ≡ content_length bs o
-same_content bs cs q o l h g =
-    rw (same_header bs cs q (head_at o) (omega arith) h g, same_header bs cs q (head_at o + 1) (omega arith) h g, same_header bs cs q (head_at o + 1 + 1) (omega arith) h g) refl
+same_content bs cs q o l h g = grind (arith, nat_tests, same_one bs cs 0 q)
 
 same_contents : (bs cs : List ℕ) (q k o : ℕ) → head_at (o + k) ≤ q → q ≤ length bs → SameBelow q bs cs → content_lengths cs k o ≡ content_lengths bs k o
 unfolding content_lengths
@@ -179,8 +126,8 @@ one_length ks js frames others bs cs c d v w g =
     let y = length_by_headers js others cs d w in
     let q = head_at (two bs 4) in
     let h : q ≤ length bs = omega (arith, x) in
-    let a = same_header bs cs q 4 (omega arith) h g in
-    let b = same_header bs cs q 5 (omega arith) h g in
+    let a = same_one bs cs 0 q 4 (omega arith) h g in
+    let b = same_one bs cs 0 q 5 (omega arith) h g in
     let n : two cs 4 ≡ two bs 4 = omega (arith, a, b) in
     let s = same_contents bs cs q (two bs 4) 0 (omega arith) h g in
     let z : head_at (two cs 4) + content_lengths cs (two cs 4) 0 ≡ head_at (two bs 4) + content_lengths cs (two bs 4) 0 = ap (λ k. head_at k + content_lengths cs k 0) n in

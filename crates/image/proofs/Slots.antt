@@ -1,31 +1,20 @@
 -- Slots that are written come back.
-use Rattle.std.proofs.Common.{◌≡◌, ℕ, suc, ◌+◌, ◌-◌, ◌*◌, ◌<◌, ◌≤◌, Bool, true, false, List, [], ◌∷◌, ◌++◌, length, Ok, refl, subst, arith}
+use Rattle.std.proofs.Common.{◌≡◌, ℕ, suc, ◌+◌, ◌-◌, ◌<◌, ◌≤◌, Bool, List, [], ◌∷◌, ◌++◌, length, Ok, refl, subst, arith}
 use lib.Dec.{eqb-suc-zero}
 use Rattle.std.proofs.lemmas.Bool.Decides.{nat_tests}
 use Rattle.rights.specs.Vocabulary.{rights_of_bits}
 use Rattle.rights.specs.World.{Slot, Rights, empty, cap}
-use Rattle.image.specs.declared.content.Entry.TheVariants as entry_of
 use Rattle.image.specs.Fields.{one, two}
 use Rattle.image.specs.Format.{slot, entries}
-use Rattle.image.specs.Meaning.{four, two_bytes, four_bytes, all, bit, rights_bits, slot_bytes, slots_from}
+use Rattle.std.specs.List.{flat_map}
+use Rattle.image.specs.Meaning.{four, two_bytes, four_bytes, bit, rights_bits, slot_bytes, slots_from}
 use Rattle.image.proofs.Stands.{At, Alls, at_len, at_split, at_two, at_four, each_all}
 
 pub rights_back : (r : Rights) → rights_of_bits (rights_bits r) ≡ r
-rights_back r = go r.reads r.writes r.hands
-  where
-    go : (x y z : Bool) → rights_of_bits (bit x + 2 * bit y + 4 * bit z) ≡ record { reads = x; writes = y; hands = z }
-    go true true true = refl
-    go true true false = refl
-    go true false true = refl
-    go true false false = refl
-    go false true true = refl
-    go false true false = refl
-    go false false true = refl
-    go false false false = refl
+rights_back r = grind arith
 
 pub bit_low : (x : Bool) → bit x ≤ 1
-bit_low true = omega arith
-bit_low false = omega arith
+bit_low x = grind arith
 
 pub rights_low : (r : Rights) → rights_bits r ≤ 7
 rights_low r = omega (arith, bit_low r.reads, bit_low r.writes, bit_low r.hands)
@@ -61,25 +50,20 @@ Orderly b (cap o r g j m ∷ ss) = (j ≡ suc b) × Orderly (suc b) ss
 
 module _ (bs : List ℕ) (n : ℕ) (few : n ≤ 1000) where
   slot_fine : (i a : ℕ) (x : Slot) → GoodSlot n i x → At bs a (slot_bytes x) → slot bs n a ≡ Ok (a + length (slot_bytes x))
-  slot_fine i a empty g h =
-      let s = slot_read bs a 0 0 0 (omega arith) (omega arith) h in
-      slot_ok bs n a s.room (omega (arith, s.object_is)) (omega (arith, s.rights_is))
-  slot_fine i a (cap o r b j m) g h =
-      let s = slot_read bs a (suc o) (rights_bits r) b (omega (arith, g.0, few)) g.1 h in
-      slot_ok bs n a s.room (omega (arith, s.object_is, g.0)) (omega (arith, s.rights_is, rights_low r))
+  slot_fine i a x g h = grind (arith, nat_tests, slot_read, rights_low)
 
-  pub slots_fine : (ss : List Slot) (a : ℕ) → Alls (GoodSlot n) 0 ss → At bs a (all slot_bytes ss) → entries bs n entry_of.Slot (length ss) a ≡ Ok (a + length (all slot_bytes ss))
+  pub slots_fine : (ss : List Slot) (a : ℕ) → Alls (GoodSlot n) 0 ss → At bs a (flat_map slot_bytes ss) → entries (slot bs n) (length ss) a ≡ Ok (a + length (flat_map slot_bytes ss))
   slots_fine ss a g h = each_all bs (λ _ a. slot bs n a) slot_bytes (GoodSlot n) slot_fine ss 0 a g h
 
-  pub slots_back : (ss : List Slot) (i a b : ℕ) → Alls (GoodSlot n) i ss → Orderly b ss → At bs a (all slot_bytes ss) → slots_from bs (length ss) a b ≡ ss
-  unfolding slots_from all
+  pub slots_back : (ss : List Slot) (i a b : ℕ) → Alls (GoodSlot n) i ss → Orderly b ss → At bs a (flat_map slot_bytes ss) → slots_from bs (length ss) a b ≡ ss
+  unfolding slots_from
   slots_back [] i a b g o h = refl
   slots_back (empty ∷ ss) i a b g o h =
-      let t = at_split bs a (slot_bytes empty) (all slot_bytes ss) h in
+      let t = at_split bs a (slot_bytes empty) (flat_map slot_bytes ss) h in
       let s = slot_read bs a 0 0 0 (omega arith) (omega arith) t.0 in
       rw (s.object_is, slots_back ss (suc i) (a + 7) b g.1 o t.1)
   slots_back (cap u r c j m ∷ ss) i a b g o h =
-      let t = at_split bs a (slot_bytes (cap u r c j m)) (all slot_bytes ss) h in
+      let t = at_split bs a (slot_bytes (cap u r c j m)) (flat_map slot_bytes ss) h in
       let s = slot_read bs a (suc u) (rights_bits r) c (omega (arith, g.0.0, few)) g.0.1 t.0 in
       let e : suc u - 1 ≡ u = omega arith in
       rw (s.object_is, eqb-suc-zero u, e, s.rights_is, s.badge_is, rights_back r, slots_back ss (suc i) (a + 7) (suc b) g.1 o.1 t.1, o.0, g.0.2)

@@ -1,6 +1,7 @@
 -- An image that is taken means objects that an image can carry.
-use Rattle.std.proofs.Common.{◌≡◌, ℕ, zero, suc, ◌+◌, ◌*◌, ◌/◌, ◌<◌, ◌≤◌, true, ◌&&◌, ltb, leb, List, [], ◌∷◌, length, get_or, Some, Ok, sym, refl, ap, ◌∙◌, subst, inl, inr, arith}
-use Rattle.std.proofs.lemmas.Bool.{eq-eqb, ne_eqb, leb-true, ltb-true, eqb-true, cases_eq, and_parts}
+use Rattle.std.proofs.Common.{◌≡◌, ℕ, zero, suc, ◌+◌, ◌*◌, ◌/◌, ◌<◌, ◌≤◌, true, ◌&&◌, ltb, leb, List, [], ◌∷◌, length, get_or, Some, Ok, sym, refl, ap, ◌∙◌, subst, arith}
+use Rattle.std.proofs.lemmas.Bool.{eqb-true}
+use Rattle.std.proofs.lemmas.Bool.Decides.{nat_tests}
 use Rattle.rights.specs.declared.kinds.Kind.{Kind}
 use Rattle.rights.specs.declared.kinds.Kind.TheVariants.{Pool, Table, Port, Page, Thread, Line}
 use Rattle.rights.specs.Vocabulary.{kind_number}
@@ -11,9 +12,8 @@ use Rattle.rv32.specs.Registers.{fresh}
 use Rattle.rv32.specs.Execute.{act}
 use Rattle.image.specs.declared.census.Census.{Census}
 use Rattle.image.specs.declared.census.Kinds.{Kinds}
-use Rattle.image.specs.declared.content.Entry.TheVariants.{Slot}
 use Rattle.image.specs.Fields.{one, two, each}
-use Rattle.image.specs.Format.{head_at, size_at, counted, right_size, header, entries, state, part}
+use Rattle.image.specs.Format.{head_at, size_at, counted, right_size, header, slot, entries, state, part}
 use Rattle.image.specs.Meaning.{two_bytes, Places, state_of, read_as, after, object_at, objects_from, stop, ready_mark, slots_from}
 use Rattle.image.proofs.Sized.{then_back}
 use Rattle.image.proofs.Stands.{At, Alls}
@@ -31,28 +31,17 @@ record Tally (c d : Census) (x : Object Cpu) : Type 0 where
 
 same_tally : (c d : Census) (x : Object Cpu) → c ≡ d → ((ys : List (Object Cpu)) → threads Cpu fresh act (x ∷ ys) ≡ threads Cpu fresh act ys)
     → ((ys : List (Object Cpu)) → lines Cpu fresh act (x ∷ ys) ≡ lines Cpu fresh act ys) → Tally c d x
-same_tally c d x m t l =
-    subst (λ (g : Census). Tally c g x) m
-    (record { threads_to = λ ys. ap (λ v. c.threads + v) (t ys); lines_to = λ ys. ap (λ v. c.lines + v) (l ys); few = ((λ h. h), (λ h. h)); objects_to = refl })
+same_tally c d x m t l = grind arith
 
 tally : (bs : List ℕ) (o : ℕ) (q : Places) (c d : Census) (K : Kind) → counted c K ≡ Some d → Tally c d (read_as bs o q (Some K))
 unfolding threads lines
-tally bs o q c d Pool e = let m : c ≡ d = cc in same_tally c d (read_as bs o q (Some Pool)) m (λ ys. refl) (λ ys. refl)
-tally bs o q c d Table e = let m : c ≡ d = cc in same_tally c d (read_as bs o q (Some Table)) m (λ ys. refl) (λ ys. refl)
-tally bs o q c d Port e = let m : c ≡ d = cc in same_tally c d (read_as bs o q (Some Port)) m (λ ys. refl) (λ ys. refl)
-tally bs o q c d Page e = let m : c ≡ d = cc in same_tally c d (read_as bs o q (Some Page)) m (λ ys. refl) (λ ys. refl)
-tally bs o q c d Thread e =
-    let m = thread_count c d e in
-    record { threads_to = λ ys. omega (arith, m.0); lines_to = λ ys. omega (arith, m.2); few = ((λ y. omega (arith, m.1)), (λ y. omega (arith, m.2, y))); objects_to = m.3 }
-tally bs o q c d Line e =
-    let m = line_count c d e in
-    record { threads_to = λ ys. omega (arith, m.2); lines_to = λ ys. omega (arith, m.0); few = ((λ y. omega (arith, m.2, y)), (λ y. omega (arith, m.1))); objects_to = m.3 }
+tally bs o q c d K e = grind (arith, thread_count c d, line_count c d, same_tally c d)
 
 sizes : (s : ℕ) → (ltb 0 s && leb s 4096) ≡ true → (1 ≤ s) × (s ≤ 4096)
-sizes s e = let p = and_parts (ltb 0 s) (leb s 4096) e in (ltb-true 0 s p.0, leb-true s 4096 p.1)
+sizes s e = grind (arith, nat_tests)
 
 state_fine : (m : ℕ) → state_of (ready_mark (state_of m)) ≡ state_of m
-state_fine m = elim (cases_eq m 1) [ inl z ↦ rw (eq-eqb m 1 z) | inr z ↦ rw (ne_eqb m 1 z) ]
+state_fine m = grind (arith, nat_tests)
 
 module _ (bs : List ℕ) (low : (k : ℕ) → get_or bs k 0 < 256) (n : ℕ) where
   head_stands : (o k s : ℕ) → head_at o + 3 ≤ length bs → one bs (head_at o) ≡ k → size_at bs o ≡ s → At bs (head_at o) (k ∷ two_bytes s)
@@ -72,7 +61,7 @@ module _ (bs : List ℕ) (low : (k : ℕ) → get_or bs k 0 < 256) (n : ℕ) whe
       ((head_stands o 0 ((size_at bs o * 4096) / 4096) l k (sym v), (refl, refl, rw v, omega (arith, z.0), omega (arith, z.1))), tt)
   object_read o q a h Table k s l ta th =
       let z = sizes (size_at bs o) s in
-      let g : entries bs n Slot (size_at bs o) q.slots_at ≡ Ok a = sym (let y : part bs n Table o q.slots_at ≡ entries bs n Slot (size_at bs o) q.slots_at = rw k in y) ∙ ta in
+      let g : entries (slot bs n) (size_at bs o) q.slots_at ≡ Ok a = sym (let y : part bs n Table o q.slots_at ≡ entries (slot bs n) (size_at bs o) q.slots_at = rw k in y) ∙ ta in
       let r = slots_read bs low n (size_at bs o) 0 q.slots_at q.born a g in
       ((head_stands o 1 (length (slots_from bs (size_at bs o) q.slots_at q.born)) l k (sym r.long), (refl, omega (arith, z.0, r.long), omega (arith, z.1, r.long), r.good)), r.order)
   object_read o q a h Port k s l ta th = ((head_stands o 2 0 l k (eqb-true (size_at bs o) 0 s), (refl, refl)), tt)

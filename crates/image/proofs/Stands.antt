@@ -1,8 +1,14 @@
 -- Bytes that stand at a place.
-use Rattle.std.proofs.Common.{◌≡◌, ℕ, zero, suc, ◌+◌, ◌/◌, ◌%◌, ◌<◌, ◌≤◌, List, [], ◌∷◌, ◌++◌, length, get_or, Ok, refl, ap, ◌∙◌, subst, add-zero, add_assoc, add-one, arith, length-append}
+use Rattle.std.proofs.Common.{◌≡◌, ℕ, zero, suc, ◌+◌, ◌<◌, ◌≤◌, List, [], ◌∷◌, ◌++◌, length, get_or, Ok, refl, ◌∙◌, ◌*◌, subst, add-zero, add_assoc, add-one, arith, length-append}
 use Rattle.std.proofs.lemmas.Bool.{le-leb}
 use Rattle.image.specs.Fields.{two, Read, past, each}
-use Rattle.image.specs.Meaning.{four, two_bytes, four_bytes, all}
+use Rattle.std.specs.List.{flat_map}
+use Rattle.image.specs.Meaning.{four, two_bytes, four_bytes}
+
+-- how long pieces of one length are together
+pub pieces_length : {X : Type 0} (f : X → List ℕ) (n : ℕ) → ((x : X) → length (f x) ≡ n) → (xs : List X) → length (flat_map f xs) ≡ n * length xs
+pieces_length f n e [] = omega arith
+pieces_length f n e (x ∷ xs) = length-append (f x) (flat_map f xs) ∙ omega (arith, e x, pieces_length f n e xs)
 
 -- xs stand at a in bs
 abbrev pub At : List ℕ → ℕ → List ℕ → Type 0
@@ -29,16 +35,10 @@ at_split bs a (x ∷ xs) ys h =
     ((h.0, r.0), subst (λ p. At bs p ys) e r.1)
 
 pub at_two : (bs : List ℕ) (a v : ℕ) → v < 65536 → At bs a (two_bytes v) → two bs a ≡ v
-at_two bs a v l h = let e = h.0 in let f = h.1.0 in omega (arith, e, f)
+at_two bs a v l h = grind arith
 
 pub at_four : (bs : List ℕ) (a v : ℕ) → v < 4294967296 → At bs a (four_bytes v) → four bs a ≡ v
-at_four bs a v l h =
-    let e = h.0 in let f = h.1.0 in
-    let p : (a + 1) + 1 ≡ a + 2 = omega arith in
-    let q : (a + 2) + 1 ≡ a + 3 = omega arith in
-    let g : get_or bs (a + 2) 0 ≡ v / 65536 % 256 = subst (λ p. get_or bs p 0 ≡ v / 65536 % 256) p h.1.1.0 in
-    let g3 : get_or bs (a + 3) 0 ≡ v / 16777216 = subst (λ p. get_or bs p 0 ≡ v / 16777216) (ap (λ x. x + 1) p ∙ q) h.1.1.1.0 in
-    omega (arith, e, f, g, g3)
+at_four bs a v l h = grind arith
 
 pub past_fine : (bs : List ℕ) (a n : ℕ) → a + n ≤ length bs → past bs a n ≡ Ok (a + n)
 past_fine bs a n l = rw (le-leb (a + n) (length bs) l)
@@ -64,9 +64,9 @@ alls_at P d (x ∷ xs) i (suc j) h l =
 -- a reader that gets over each item's bytes gets over all of them
 pub each_all : {X : Type 0} (bs : List ℕ) (f : ℕ → ℕ → Read ℕ) (enc : X → List ℕ) (P : ℕ → X → Type 0)
     → ((i a : ℕ) (x : X) → P i x → At bs a (enc x) → f i a ≡ Ok (a + length (enc x)))
-    → (xs : List X) (i a : ℕ) → Alls P i xs → At bs a (all enc xs) → each f (length xs) i a ≡ Ok (a + length (all enc xs))
-unfolding each all
+    → (xs : List X) (i a : ℕ) → Alls P i xs → At bs a (flat_map enc xs) → each f (length xs) i a ≡ Ok (a + length (flat_map enc xs))
+unfolding each
 each_all bs f enc P step [] i a p h = rw add-zero
 each_all bs f enc P step (x ∷ xs) i a p h =
-    let s = at_split bs a (enc x) (all enc xs) h in
+    let s = at_split bs a (enc x) (flat_map enc xs) h in
     rw (step i a x p.0 s.0, each_all bs f enc P step xs (suc i) (a + length (enc x)) p.1 s.1, length-append, add_assoc)

@@ -1,8 +1,8 @@
 -- Readers that look at no byte beyond the field at hand: what a reader says of bs it says of every cs with the same bytes so far.
-use Rattle.std.proofs.Common.{◌≡◌, ℕ, zero, suc, ◌+◌, ◌<◌, ◌≤◌, Bool, true, false, List, length, Some, None, Ok, Err, Option, refl, ap, ◌∙◌, subst, inl, inr, arith}
-use Rattle.std.proofs.lemmas.Bool.{cases_lt, le-leb, lt-leb}
+use Rattle.std.proofs.Common.{◌≡◌, ℕ, zero, suc, ◌+◌, ◌-◌, ◌<◌, ◌≤◌, Bool, List, length, Some, None, Ok, Err, Option, refl, ap, subst, arith}
 use Rattle.rights.specs.declared.refusals.Refusal.{Refusal}
 use Rattle.rights.specs.declared.refusals.Refusal.TheVariants.{Length, Magic, Value, Name, Frames, Event}
+use Rattle.std.proofs.lemmas.Bool.Decides.{nat_tests}
 use Rattle.image.specs.Fields.{Read, ◌then◌, past, judged, given, each}
 use Rattle.image.specs.Prefix.{SameBelow}
 
@@ -25,17 +25,10 @@ module _ (bs cs : List ℕ) (W : Refusal → ℕ) where
   lower p q l g k h t = g k (omega arith) t
 
   pub longer : (q : ℕ) → q ≤ length bs → SameBelow q bs cs → q ≤ length cs
-  longer zero l g = omega arith
-  longer (suc q) l g = let h = (g q (omega arith) (omega arith)).0 in omega (arith, h)
+  longer q l g = grind (arith, g (q - 1))
 
   weaken : {A : Type 0} (end : A → ℕ) (a b : ℕ) (r s t : Read A) → a ≤ b → (SameBelow b bs cs → t ≡ s) → Told end b r s → Told end a r t
-  weaken end a b (Ok x) s t l e h = (omega (arith, h.0), h.1, λ g. e (lower b (end x) h.0 g) ∙ h.2 g)
-  weaken end a b (Err (Length p)) s t l e h = h
-  weaken end a b (Err Magic) s t l e h = (omega (arith, h.0), λ g. e (lower b (W Magic) h.0 g) ∙ h.1 g)
-  weaken end a b (Err (Value p)) s t l e h = (omega (arith, h.0), λ g. e (lower b (W (Value p)) h.0 g) ∙ h.1 g)
-  weaken end a b (Err (Name p)) s t l e h = (omega (arith, h.0), λ g. e (lower b (W (Name p)) h.0 g) ∙ h.1 g)
-  weaken end a b (Err (Frames f)) s t l e h = h
-  weaken end a b (Err (Event p)) s t l e h = h
+  weaken end a b r s t l e h = grind (arith, lower)
 
   -- what a reader says of cs may be put otherwise where the bytes so far are the same
   pub told_same : {A : Type 0} (end : A → ℕ) (a : ℕ) (r s t : Read A) → (SameBelow a bs cs → t ≡ s) → Told end a r s → Told end a r t
@@ -54,14 +47,7 @@ module _ (bs cs : List ℕ) (W : Refusal → ℕ) where
   -- bytes that have to be there
   pub told_past : {A : Type 0} (end : A → ℕ) (p w : ℕ) (r s : ℕ → Read A) → (p + w ≤ length bs → Told end (p + w) (r (p + w)) (s (p + w))) →
       Told end p (past bs p w then r) (past cs p w then s)
-  told_past end p w r s more =
-      elim (cases_lt (length bs) (p + w)) [
-        | inl h ↦ rw (lt-leb (p + w) (length bs) h) refl
-        | inr h ↦
-            rw (le-leb (p + w) (length bs) h)
-            (weaken end p (p + w) (r (p + w)) (s (p + w)) (past cs p w then s) (omega arith)
-            (λ g. let l = longer (p + w) h g in rw (le-leb (p + w) (length cs) l)) (more h))
-      ]
+  told_past end p w r s more = grind (arith, nat_tests, longer (p + w), weaken end p (p + w) (r (p + w)) (s (p + w)) (past cs p w then s), more)
 
   -- refusals of a field that was judged
   abbrev pub Judging : Type 0 → Refusal → Type 0
@@ -70,9 +56,7 @@ module _ (bs cs : List ℕ) (W : Refusal → ℕ) where
   -- a test on the field that ends here
   pub told_test : {A : Type 0} (end : A → ℕ) (b : ℕ) (t u : Bool) (e : Refusal) (r s : Read A) → Judging A e → W e ≡ b → (SameBelow b bs cs → u ≡ t) →
       Told end b r s → Told end b (judged t e r) (judged u e s)
-  told_test end b true u e r s j w q h = told_same end b r s (judged u e s) (λ g. ap (λ v. judged v e s) (q g)) h
-  told_test end b false u e r s j w q h =
-      j b (judged u e s) (omega (arith, w), λ g. ap (λ v. judged v e s) (q (subst (λ x. SameBelow x bs cs) w g)))
+  told_test end b t u e r s j w q h = grind (arith, told_same end b r s (judged u e s), j b (judged u e s), q)
 
   -- something that the field that ends here has to name
   pub told_given : {A X : Type 0} (end : A → ℕ) (b : ℕ) (t u : Option X) (e : Refusal) (r s : X → Read A) → Judging A e → W e ≡ b → (SameBelow b bs cs → u ≡ t) →

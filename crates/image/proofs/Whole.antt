@@ -1,6 +1,7 @@
 -- The image of objects that it can carry is taken, and its objects come back.
-use Rattle.std.proofs.Common.{◌≡◌, ℕ, suc, ◌+◌, ◌*◌, ◌/◌, ◌<◌, ◌≤◌, true, false, not, ◌&&◌, eqb, ltb, leb, List, [], ◌∷◌, ◌++◌, length, Some, Ok, sym, refl, ap, ◌∙◌, subst, arith, length-append}
-use Rattle.std.proofs.lemmas.Bool.{lt-ltb, le-leb, eq-eqb, and_from, and_right, not_from_true}
+use Rattle.std.proofs.Common.{◌≡◌, ℕ, suc, ◌+◌, ◌*◌, ◌/◌, ◌<◌, ◌≤◌, true, false, ◌&&◌, ltb, leb, List, [], ◌∷◌, ◌++◌, length, Some, Ok, sym, refl, ap, ◌∙◌, subst, arith, length-append}
+use Rattle.std.proofs.lemmas.Bool.{lt-ltb, le-leb}
+use Rattle.std.proofs.lemmas.Bool.Decides.{nat_tests}
 use Rattle.rights.specs.declared.kinds.Kind.{Kind}
 use Rattle.rights.specs.declared.kinds.Kind.TheVariants.{Pool, Table, Port, Page, Thread, Line}
 use Rattle.rights.specs.Vocabulary.{kind_from}
@@ -14,27 +15,25 @@ use Rattle.image.specs.declared.census.Kinds.{Kinds}
 use Rattle.image.specs.Fields.{one, two, each}
 use Rattle.image.specs.Format.{lets_in, head_at, counted, right_size, differs, magic, count, header, part, section, body}
 use Rattle.image.specs.Layout.{frames_for}
-use Rattle.image.specs.Meaning.{two_bytes, all, births_of, Places, object_at, after, objects_from, stop, objects_of, header_bytes, part_bytes, encode, frames}
+use Rattle.std.specs.List.{flat_map}
+use Rattle.image.specs.Meaning.{two_bytes, births_of, Places, object_at, after, objects_from, stop, objects_of, header_bytes, part_bytes, encode, frames}
 use Rattle.image.specs.Verdict.{verdict}
-use Rattle.image.proofs.Stands.{At, Alls, at_len, at_split, at_two, each_all, past_fine}
+use Rattle.image.proofs.Stands.{At, Alls, pieces_length, at_len, at_split, at_two, each_all}
 use Rattle.image.proofs.Births.{Orders}
 use Rattle.image.proofs.Objects.{LetIn, HeadAt, Placed, its_header, fills, part_step, build_step}
 
 same : (bs : List ℕ) (a c : ℕ) → one bs a ≡ c → differs bs a c ≡ false
-same bs a c e = and_right (ltb a (length bs)) (not (eqb (one bs a) c)) (not_from_true (eqb (one bs a) c) (eq-eqb (one bs a) c e))
+same bs a c e = grind (arith, nat_tests)
 
 magic_fine : (bs : List ℕ) → 4 ≤ length bs → one bs 0 ≡ 72 → one bs 1 ≡ 79 → one bs 2 ≡ 76 → one bs 3 ≡ 68 → magic bs ≡ Ok 4
-magic_fine bs l a b c d = rw (same bs 0 72 a, same bs 1 79 b, same bs 2 76 c, same bs 3 68 d, past_fine bs 0 4 l)
+magic_fine bs l a b c d = grind (arith, nat_tests)
 
 size_fine : (s : ℕ) → 1 ≤ s → s ≤ 4096 → (ltb 0 s && leb s 4096) ≡ true
-size_fine s h k = and_from (ltb 0 s) (leb s 4096) (lt-ltb 0 s h) (le-leb s 4096 k)
+size_fine s h k = grind (arith, nat_tests)
 
 header_fine : (ks : Kinds) (bs : List ℕ) (o k s : ℕ) (c d : Census) (K : Kind) → HeadAt bs o k s → kind_from k ≡ Some K → lets_in ks K ≡ true → counted c K ≡ Some d → right_size K s ≡ true
     → header ks bs o c ≡ Ok d
-header_fine ks bs o k s c d K h e l f g =
-    let p : head_at o + 1 ≤ length bs = omega (arith, h.room) in
-    let q : (head_at o + 1) + 2 ≤ length bs = omega (arith, h.room) in
-    rw (past_fine bs (head_at o) 1 p, h.kind_is, e, l, f, past_fine bs (head_at o + 1) 2 q, h.size_is, g)
+header_fine ks bs o k s c d K h e l f g = grind (arith, nat_tests, h.room, h.kind_is, h.size_is)
 
 module _ (ks : Kinds) (bs : List ℕ) (n : ℕ) where
   abbrev P : ℕ → Object Cpu → Type 0
@@ -75,22 +74,20 @@ module _ (ks : Kinds) (bs : List ℕ) (n : ℕ) where
 
 -- where the parts of objects stand
 record Laid (bs : List ℕ) (q : Places) (xs : List (Object Cpu)) : Type 0 where
-  at_slots : At bs q.slots_at (all (part_bytes Table) xs)
-  at_bytes : At bs q.bytes_at (all (part_bytes Page) xs)
-  at_thread : At bs q.thread_at (all (part_bytes Thread) xs)
+  at_slots : At bs q.slots_at (flat_map (part_bytes Table) xs)
+  at_bytes : At bs q.bytes_at (flat_map (part_bytes Page) xs)
+  at_thread : At bs q.thread_at (flat_map (part_bytes Thread) xs)
   order : Orders q.born xs
 
 module _ (bs : List ℕ) (n : ℕ) (few : n ≤ 1000) where
   -- what stands there for the first, and behind it for the others
-  first : (k : Kind) (a : ℕ) (x : Object Cpu) (xs : List (Object Cpu)) → At bs a (all (part_bytes k) (x ∷ xs)) → At bs a (part_bytes k x)
-  unfolding all
-  first k a x xs h = (at_split bs a (part_bytes k x) (all (part_bytes k) xs) h).0
+  first : (k : Kind) (a : ℕ) (x : Object Cpu) (xs : List (Object Cpu)) → At bs a (flat_map (part_bytes k) (x ∷ xs)) → At bs a (part_bytes k x)
+  first k a x xs h = (at_split bs a (part_bytes k x) (flat_map (part_bytes k) xs) h).0
 
-  behind : (k : Kind) (o a : ℕ) (x : Object Cpu) (xs : List (Object Cpu)) → Placed bs n o x → At bs a (all (part_bytes k) (x ∷ xs)) → At bs (stop (part bs n k o a)) (all (part_bytes k) xs)
-  unfolding all
+  behind : (k : Kind) (o a : ℕ) (x : Object Cpu) (xs : List (Object Cpu)) → Placed bs n o x → At bs a (flat_map (part_bytes k) (x ∷ xs)) → At bs (stop (part bs n k o a)) (flat_map (part_bytes k) xs)
   behind k o a x xs p h =
-      let s = at_split bs a (part_bytes k x) (all (part_bytes k) xs) h in
-      subst (λ b. At bs b (all (part_bytes k) xs)) (sym (ap stop (part_step bs n few k o a x p s.0))) s.1
+      let s = at_split bs a (part_bytes k x) (flat_map (part_bytes k) xs) h in
+      subst (λ b. At bs b (flat_map (part_bytes k) xs)) (sym (ap stop (part_step bs n few k o a x p s.0))) s.1
 
   laid_back : (o : ℕ) (x : Object Cpu) (xs : List (Object Cpu)) (q : Places) → Placed bs n o x → Laid bs q (x ∷ xs) → object_at bs o q ≡ x
   laid_back o x xs q p l =
@@ -113,10 +110,8 @@ module _ (bs : List ℕ) (n : ℕ) (few : n ≤ 1000) where
       let b = objects_back xs (suc o) (after bs n o q) p.1 (laid_on o x xs q p.0 l) in
       ap (λ y. y ∷ objects_from bs n (length xs) (suc o) (after bs n o q)) a ∙ ap (λ ys. x ∷ ys) b
 
-pub headers_length : (xs : List (Object Cpu)) → length (all header_bytes xs) ≡ 3 * length xs
-unfolding all
-headers_length [] = refl
-headers_length (x ∷ xs) = length-append (header_bytes x) (all header_bytes xs) ∙ (let f = headers_length xs in omega (arith, f))
+pub headers_length : (xs : List (Object Cpu)) → length (flat_map header_bytes xs) ≡ 3 * length xs
+headers_length os = pieces_length header_bytes 3 (λ x. refl) os
 
 -- where the parts of an image stand
 pub record Parts (bs : List ℕ) (os : List (Object Cpu)) (t p h : ℕ) : Type 0 where
@@ -125,20 +120,20 @@ pub record Parts (bs : List ℕ) (os : List (Object Cpu)) (t p h : ℕ) : Type 0
   pub h2 : one bs 2 ≡ 76
   pub h3 : one bs 3 ≡ 68
   pub number_at : At bs 4 (two_bytes (length os))
-  pub headers_at : At bs 6 (all header_bytes os)
-  pub tables_at : At bs t (all (part_bytes Table) os)
-  pub pages_at : At bs p (all (part_bytes Page) os)
-  pub threads_at : At bs h (all (part_bytes Thread) os)
+  pub headers_at : At bs 6 (flat_map header_bytes os)
+  pub tables_at : At bs t (flat_map (part_bytes Table) os)
+  pub pages_at : At bs p (flat_map (part_bytes Page) os)
+  pub threads_at : At bs h (flat_map (part_bytes Thread) os)
   pub t_is : t ≡ head_at (length os)
-  pub p_is : p ≡ t + length (all (part_bytes Table) os)
-  pub h_is : h ≡ p + length (all (part_bytes Page) os)
+  pub p_is : p ≡ t + length (flat_map (part_bytes Table) os)
+  pub h_is : h ≡ p + length (flat_map (part_bytes Page) os)
 
 pub parts : (bs : List ℕ) (os : List (Object Cpu)) → At bs 0 (encode os) → (t : ℕ) × (p : ℕ) × (h : ℕ) × Parts bs os t p h
 parts bs os w =
-    let hs : List ℕ = all header_bytes os in
-    let ts : List ℕ = all (part_bytes Table) os in
-    let ps : List ℕ = all (part_bytes Page) os in
-    let rs : List ℕ = all (part_bytes Thread) os in
+    let hs : List ℕ = flat_map header_bytes os in
+    let ts : List ℕ = flat_map (part_bytes Table) os in
+    let ps : List ℕ = flat_map (part_bytes Page) os in
+    let rs : List ℕ = flat_map (part_bytes Thread) os in
     let a = at_split bs 4 (two_bytes (length os)) (hs ++ (ts ++ (ps ++ rs))) w.1.1.1.1 in
     let b = at_split bs 6 hs (ts ++ (ps ++ rs)) a.1 in
     let c = at_split bs (6 + length hs) ts (ps ++ rs) b.1 in
@@ -163,34 +158,27 @@ parts bs os w =
     )
 
 encode_length : (os : List (Object Cpu)) → length (encode os) ≡
-    head_at (length os) + length (all (part_bytes Table) os) + length (all (part_bytes Page) os) + length (all (part_bytes Thread) os)
-encode_length os =
-    let hs : List ℕ = all header_bytes os in
-    let ts : List ℕ = all (part_bytes Table) os in
-    let ps : List ℕ = all (part_bytes Page) os in
-    let rs : List ℕ = all (part_bytes Thread) os in
-    omega (arith, length-append hs (ts ++ (ps ++ rs)), length-append ts (ps ++ rs), length-append ps rs, headers_length os)
+    head_at (length os) + length (flat_map (part_bytes Table) os) + length (flat_map (part_bytes Page) os) + length (flat_map (part_bytes Thread) os)
+encode_length os = grind (arith, length-append, headers_length)
 
 module _ (bs : List ℕ) (os : List (Object Cpu)) (few : length os ≤ 1000) (t p h : ℕ) (at : Parts bs os t p h) (placed : Alls (Placed bs (length os)) 0 os) where
   n_is : two bs 4 ≡ length os
   n_is = at_two bs 4 (length os) (omega (arith, few)) at.number_at
 
-  section_goes : (k : Kind) (a : ℕ) → At bs a (all (part_bytes k) os) → section bs (length os) k a ≡ Ok (a + length (all (part_bytes k) os))
+  section_goes : (k : Kind) (a : ℕ) → At bs a (flat_map (part_bytes k) os) → section bs (length os) k a ≡ Ok (a + length (flat_map (part_bytes k) os))
   section_goes k a s = each_all bs (part bs (length os) k) (part_bytes k) (Placed bs (length os)) (part_step bs (length os) few k) os 0 a placed s
 
   tables_go : section bs (length os) Table (head_at (length os)) ≡ Ok p
-  tables_go = subst (λ a. section bs (length os) Table a ≡ Ok p) at.t_is (section_goes Table t at.tables_at ∙ ap Ok (sym at.p_is))
+  tables_go = grind (arith, section_goes Table t at.tables_at, at.t_is, at.p_is)
 
   pages_go : section bs (length os) Page p ≡ Ok h
-  pages_go = section_goes Page p at.pages_at ∙ ap Ok (sym at.h_is)
+  pages_go = grind (arith, section_goes Page p at.pages_at, at.h_is)
 
-  body_goes : body bs (length os) ≡ Ok (h + length (all (part_bytes Thread) os))
+  body_goes : body bs (length os) ≡ Ok (h + length (flat_map (part_bytes Thread) os))
   body_goes = rw (tables_go, pages_go, section_goes Thread h at.threads_at)
 
   count_goes : count bs ≡ Ok (length os)
-  count_goes =
-      let l = at_len bs 4 (two_bytes (length os)) at.number_at in
-      rw (past_fine bs 4 2 l, n_is, le-leb (length os) 1000 few)
+  count_goes = grind (arith, nat_tests, at_len bs 4 (two_bytes (length os)) at.number_at, n_is)
 
   frames_are : frames_for bs (length os) ≡ frames os
   frames_are = ap (λ k. (k + 63) / 64) (fills bs (length os) os 0 0 placed)
@@ -201,11 +189,11 @@ module _ (bs : List ℕ) (os : List (Object Cpu)) (few : length os ≤ 1000) (t 
       let l = at_len bs 4 (two_bytes (length os)) at.number_at in
       let k : 4 ≤ length bs = omega (arith, l) in
       let z = headers_fine ks bs (length os) os 0 (record { objects = length os; threads = 0; lines = 0 }) placed i (omega (arith, a)) (omega (arith, b)) in
-      let j : length bs ≤ h + length (all (part_bytes Thread) os) = omega (arith, ap length e, encode_length os, at.t_is, at.p_is, at.h_is) in
-      (z.0, rw (magic_fine bs k at.h0 at.h1 at.h2 at.h3, count_goes, z.1, body_goes, le-leb (length bs) (h + length (all (part_bytes Thread) os)) j, frames_are, le-leb (frames os) 4096 f))
+      let j : length bs ≤ h + length (flat_map (part_bytes Thread) os) = omega (arith, ap length e, encode_length os, at.t_is, at.p_is, at.h_is) in
+      (z.0, rw (magic_fine bs k at.h0 at.h1 at.h2 at.h3, count_goes, z.1, body_goes, le-leb (length bs) (h + length (flat_map (part_bytes Thread) os)) j, frames_are, le-leb (frames os) 4096 f))
 
   pub objects_come : Orders 0 os → objects_of bs ≡ os
   objects_come o =
       let q : Places = record { slots_at = head_at (length os); bytes_at = p; thread_at = h; born = 0 } in
-      let l : Laid bs q os = record { at_slots = subst (λ k. At bs k (all (part_bytes Table) os)) at.t_is at.tables_at; at_bytes = at.pages_at; at_thread = at.threads_at; order = o } in
+      let l : Laid bs q os = record { at_slots = subst (λ k. At bs k (flat_map (part_bytes Table) os)) at.t_is at.tables_at; at_bytes = at.pages_at; at_thread = at.threads_at; order = o } in
       rw (n_is, tables_go, pages_go) (objects_back bs (length os) few os 0 q placed l)

@@ -20,9 +20,20 @@ abbrev pub ◌then◌ : {A B : Type 0} → Read A → (A → Read B) → Read B
 Ok a then f = f a
 Err e then f = Err e
 
+-- the place after n bytes, if they are there
+abbrev pub end_of : List ℕ → ℕ → ℕ → Option ℕ
+end_of bs at n = cond (nat_le (at + n) (length bs)) (Some (at + n)) None
+
 -- the place after n bytes, which have to be there; else the image ends too early, at its length
 abbrev pub past : List ℕ → ℕ → ℕ → Read ℕ
 past bs at n = cond (nat_le (at + n) (length bs)) (Ok (at + n)) (Err (Length (length bs)))
+
+-- a number of one or two bytes, which have to be there, and the place after them
+abbrev pub read_one : List ℕ → ℕ → Read (ℕ × ℕ)
+read_one bs at = past bs at 1 then λ next. Ok (one bs at, next)
+
+abbrev pub read_two : List ℕ → ℕ → Read (ℕ × ℕ)
+read_two bs at = past bs at 2 then λ next. Ok (two bs at, next)
 
 -- a field that is judged: fine, or refused
 abbrev pub judged : {A : Type 0} → Bool → Refusal → Read A → Read A

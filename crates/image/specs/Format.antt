@@ -1,13 +1,12 @@
 -- The format of an image in the order of its bytes. Assumes nothing: these are definitions.
 use Rattle.std.specs.Prelude.{ℕ, ◌+◌, ◌-◌, ◌*◌, Bool, true, cond, not, ◌&&◌, ◌||◌, List, length, Some, None, Ok, Option, ◌==◌, nat_le, nat_lt}
+use Rattle.std.specs.Option.{option_map}
 use Rattle.rights.specs.declared.kinds.Kind.{Kind}
 use Rattle.rights.specs.declared.kinds.Kind.TheVariants.{Pool, Table, Port, Page, Thread, Line}
 use Rattle.rights.specs.declared.refusals.Refusal.TheVariants.{Magic, Value, Name}
 use Rattle.rights.specs.Vocabulary.{kind_number, kind_from}
 use Rattle.image.specs.declared.census.Census.{Census}
 use Rattle.image.specs.declared.census.Kinds.{Kinds}
-use Rattle.image.specs.declared.content.Entry.{Entry}
-use Rattle.image.specs.declared.content.Entry.TheVariants.{Slot, Mapping}
 use Rattle.image.specs.Fields.{one, two, Read, ◌then◌, past, judged, given, each}
 
 -- which kinds of objects an image may have: tables, pages, threads and lines, and ports or pools where they are let in
@@ -30,6 +29,10 @@ magic bs = judged (not (differs bs 0 72 || (differs bs 1 79 || (differs bs 2 76 
 abbrev pub count : List ℕ → Read ℕ
 count bs = past bs 4 2 then λ _. judged (nat_le (two bs 4) 1000) (Value 4) (Ok (two bs 4))
 
+-- what an image begins with: the number of objects
+abbrev pub opened : List ℕ → Read ℕ
+opened bs = magic bs then λ _. count bs
+
 -- HEADERS. The header of object o: its kind, one byte, and its size, two
 abbrev pub head_at : ℕ → ℕ
 head_at o = 6 + 3 * o
@@ -49,14 +52,18 @@ if_let_in ks (Some k) = cond (lets_in ks k) (Some k) None
 abbrev pub kind_at : Kinds → List ℕ → ℕ → Option Kind
 kind_at ks bs at = if_let_in ks (kind_from (one bs at))
 
+-- one more than c, if that is at most m
+abbrev pub one_more : ℕ → ℕ → Option ℕ
+one_more c m = cond (nat_lt c m) (Some (c + 1)) None
+
 -- a census with one more of a kind, if there may be one more: at most 64 threads and 32 lines
 abbrev pub counted : Census → Kind → Option Census
 counted c Pool = Some c
 counted c Table = Some c
 counted c Port = Some c
 counted c Page = Some c
-counted c Thread = cond (nat_lt c.threads 64) (Some (record { objects = c.objects; threads = c.threads + 1; lines = c.lines })) None
-counted c Line = cond (nat_lt c.lines 32) (Some (record { objects = c.objects; threads = c.threads; lines = c.lines + 1 })) None
+counted c Thread = option_map (λ t. record { objects = c.objects; threads = t; lines = c.lines }) (one_more c.threads 64)
+counted c Line = option_map (λ l. record { objects = c.objects; threads = c.threads; lines = l }) (one_more c.lines 32)
 
 -- pools and tables have a size of 1 to 4,096, the others 0
 abbrev pub right_size : Kind → ℕ → Bool
@@ -79,6 +86,10 @@ header ks bs o c =
 abbrev pub headers : Kinds → List ℕ → ℕ → Read Census
 headers ks bs n = each (header ks bs) n 0 (record { objects = n; threads = 0; lines = 0 })
 
+-- whether object o is there, and of a kind
+abbrev pub has : List ℕ → ℕ → ℕ → Kind → Bool
+has bs n o k = nat_lt o n && is_a bs o k
+
 -- CONTENT. A number v that names an object of a kind, plus 1, or is 0 for none
 abbrev pub names : List ℕ → ℕ → ℕ → Kind → Bool
 names bs n v k = v == 0 || (nat_le v n && is_a bs (v - 1) k)
@@ -98,24 +109,20 @@ mapping bs n at =
     (Ok next))
 
 -- slots or pages of a space, one after the other
-abbrev pub entry : List ℕ → ℕ → Entry → ℕ → Read ℕ
-entry bs n Slot at = slot bs n at
-entry bs n Mapping at = mapping bs n at
-
-abbrev pub entries : List ℕ → ℕ → Entry → ℕ → ℕ → Read ℕ
-entries bs n what count at = each (λ _ a. entry bs n what a) count 0 at
+abbrev pub entries : (ℕ → Read ℕ) → ℕ → ℕ → Read ℕ
+entries entry count at = each (λ _ a. entry a) count 0 at
 
 -- a thread: table + 1 (two bytes, 0 for none), 64 pages of its space, 1 for ready (one), pc (four)
 abbrev pub state : List ℕ → ℕ → ℕ → Read ℕ
 state bs n at =
     past bs at 2 then λ space. judged (names bs n (two bs at) Table) (Name at)
-    (entries bs n Mapping 64 space then λ ready. past bs ready 1 then λ pc. judged (nat_le (one bs ready) 1) (Value ready)
+    (entries (mapping bs n) 64 space then λ ready. past bs ready 1 then λ pc. judged (nat_le (one bs ready) 1) (Value ready)
     (past bs pc 4))
 
 -- what object o has if it is a table, a page or a thread
 abbrev pub content : List ℕ → ℕ → Kind → ℕ → ℕ → Read ℕ
 content bs n Pool o at = Ok at
-content bs n Table o at = entries bs n Slot (size_at bs o) at
+content bs n Table o at = entries (slot bs n) (size_at bs o) at
 content bs n Port o at = Ok at
 content bs n Page o at = past bs at 4096
 content bs n Thread o at = state bs n at

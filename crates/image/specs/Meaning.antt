@@ -1,5 +1,6 @@
 -- The world that an image means, the image of a world's objects, and the frames that they take. Assumes nothing: these are definitions.
 use Rattle.std.specs.Prelude.{ℕ, zero, suc, ◌+◌, ◌-◌, ◌*◌, ◌/◌, ◌%◌, Bool, true, false, cond, List, [], ◌∷◌, ◌++◌, length, Some, None, Ok, Err, Option, ◌==◌, slice_index}
+use Rattle.std.specs.List.{flat_map, zip}
 use Rattle.rights.specs.declared.kinds.Kind.{Kind}
 use Rattle.rights.specs.declared.kinds.Kind.TheVariants.{Pool, Table, Port, Page, Thread, Line}
 use Rattle.rights.specs.Vocabulary.{kind_number, kind_from, rights_of_bits}
@@ -132,17 +133,6 @@ slot_bytes (cap o r b i m) = two_bytes (suc o) ++ (rights_bits r ∷ four_bytes 
 abbrev pub mapping_bytes : ℕ × Bool → List ℕ
 mapping_bytes (p, r) = two_bytes p ++ (bit r ∷ [])
 
--- the pages of a space, each with its mark
-unfoldable pub pairs : List ℕ → List Bool → List (ℕ × Bool)
-pairs [] rs = []
-pairs (p ∷ ps) [] = []
-pairs (p ∷ ps) (r ∷ rs) = (p, r) ∷ pairs ps rs
-
--- things one after the other
-unfoldable pub all : {X : Type 0} → (X → List ℕ) → List X → List ℕ
-all f [] = []
-all f (x ∷ xs) = f x ++ all f xs
-
 -- the mark of a thread
 abbrev pub ready_mark : State Cpu → ℕ
 ready_mark stopped = 0
@@ -176,10 +166,10 @@ header_bytes x = kind_of x ∷ two_bytes (size_of x)
 abbrev pub content_bytes : Object Cpu → List ℕ
 content_bytes gone = []
 content_bytes (pool f n u) = []
-content_bytes (table f ss) = all slot_bytes ss
+content_bytes (table f ss) = flat_map slot_bytes ss
 content_bytes (port f ws) = []
 content_bytes (page f bs) = bs
-content_bytes (thread f s c t ps rs) = two_bytes t ++ (all mapping_bytes (pairs ps rs) ++ (ready_mark s ∷ four_bytes c.pc))
+content_bytes (thread f s c t ps rs) = two_bytes t ++ (flat_map mapping_bytes (zip ps rs) ++ (ready_mark s ∷ four_bytes c.pc))
 content_bytes (line xs ys) = []
 
 -- the same in the section of a kind: only objects of that kind have something there
@@ -189,7 +179,7 @@ part_bytes k x = cond (kind_of x == kind_number k) (content_bytes x) []
 -- the image of objects
 abbrev pub encode : List (Object Cpu) → List ℕ
 encode os =
-    72 ∷ 79 ∷ 76 ∷ 68 ∷ (two_bytes (length os) ++ (all header_bytes os ++ (all (part_bytes Table) os ++ (all (part_bytes Page) os ++ all (part_bytes Thread) os))))
+    72 ∷ 79 ∷ 76 ∷ 68 ∷ (two_bytes (length os) ++ (flat_map header_bytes os ++ (flat_map (part_bytes Table) os ++ (flat_map (part_bytes Page) os ++ flat_map (part_bytes Thread) os))))
 
 -- THE FRAMES THAT OBJECTS TAKE, in units of 64 bytes. Where an object begins if u units are used before it: a pool or a page at a frame
 abbrev pub begins_at : Object Cpu → ℕ → ℕ

@@ -1,5 +1,5 @@
 -- What of an image decides about it. Assumes nothing: these are definitions and statements.
-use Rattle.std.specs.Prelude.{◌≡◌, ℕ, zero, suc, ◌+◌, ◌*◌, ◌%◌, ◌<◌, ◌≤◌, cond, ◌&&◌, ◌⊎◌, List, length, take, Ok, Err, ◌==◌, nat_lt, slice_index}
+use Rattle.std.specs.Prelude.{◌≡◌, ℕ, zero, suc, ◌+◌, ◌*◌, ◌%◌, ◌<◌, ◌≤◌, cond, ◌&&◌, ◌⊎◌, List, length, take, Ok, Err, Result, ◌==◌, nat_lt, slice_index}
 use Rattle.rights.specs.declared.kinds.Kind.TheVariants.{Table, Page, Thread}
 use Rattle.rights.specs.declared.refusals.Refusal.{Refusal}
 use Rattle.rights.specs.declared.refusals.Refusal.TheVariants.{Length, Magic, Value, Name, Frames, Event}
@@ -9,7 +9,9 @@ use Rattle.image.specs.declared.census.Kinds.{Kinds}
 use Rattle.image.specs.Fields.{one, two}
 use Rattle.image.specs.Format.{head_at, is_a, size_at}
 use Rattle.image.specs.Verdict.{verdict}
-use Rattle.image.specs.Events.{events}
+use Rattle.image.specs.declared.rows.EventKind.{EventKind}
+use Rattle.image.specs.declared.rows.UnknownEvent.{UnknownEvent}
+use Rattle.image.specs.Events.{events, event_kind, width}
 use Rattle.image.specs.Limits.{part_verdict, part_events}
 
 -- where the field ends that a refusal of an image of n objects speaks of: "HOLD" has four bytes, a name two;
@@ -80,8 +82,12 @@ FaultsTold =
     part_verdict ks frames (nat_lt limit (length file)) (take limit file) ≡ Err e
 
 -- the same of events: where an event ends, by its kind; of one with no such kind only that byte counts
+abbrev pub end_as : ℕ → Result EventKind UnknownEvent → ℕ
+end_as at (Ok k) = at + width k
+end_as at (Err e) = at + 1
+
 abbrev pub event_end : List ℕ → ℕ → ℕ
-event_end es at = cond (one es at == 0) (at + 3) (cond (one es at == 1) (at + 4) (at + 1))
+event_end es at = end_as at (event_kind (one es at))
 
 abbrev pub EventsLimitHolds : Type 0
 EventsLimitHolds =

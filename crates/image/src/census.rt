@@ -5,7 +5,7 @@ ghost use Rattle.image.specs.Format as format;
 use rights::Kind;
 
 // How many objects, threads and lines an image has.
-#[derive(Clone, Copy)]
+#[derive(Clone, Copy, Debug, PartialEq, Eq)]
 pub struct Census {
     pub objects: u16,
     pub threads: u16,
@@ -13,7 +13,7 @@ pub struct Census {
 }
 
 // Which kinds of objects an image may have beside tables, pages, threads and lines.
-#[derive(Clone, Copy)]
+#[derive(Clone, Copy, Debug, PartialEq, Eq)]
 pub struct Kinds {
     pub ports: bool,
     pub pools: bool,
@@ -42,30 +42,27 @@ impl Kinds {
     }
 }
 
+// One more than `count`, if that is at most `limit`.
+fn one_more(count: u16, limit: u16) -> Option<u16>
+    ensures { result ≡ format.one_more count limit }
+{
+    (count < limit).then(|| count + 1)
+}
+
 impl Census {
     // With one more object of a kind; none if there are too many.
     pub(crate) fn with(self, kind: Kind) -> Option<Census>
         ensures { result ≡ format.counted self kind }
     {
         match kind {
-            Kind::Thread => {
-                if self.threads >= 64 {
-                    return None;
-                }
-                Some(Census {
-                    threads: self.threads + 1,
-                    ..self
-                })
-            }
-            Kind::Line => {
-                if self.lines >= 32 {
-                    return None;
-                }
-                Some(Census {
-                    lines: self.lines + 1,
-                    ..self
-                })
-            }
+            Kind::Thread => Some(Census {
+                threads: one_more(self.threads, 64)?,
+                ..self
+            }),
+            Kind::Line => Some(Census {
+                lines: one_more(self.lines, 32)?,
+                ..self
+            }),
             Kind::Pool | Kind::Table | Kind::Port | Kind::Page => Some(self),
         }
     }

@@ -1,5 +1,5 @@
 // Fields: what stands at a place of some bytes, low byte first.
-ghost use Rattle.std.specs.Prelude.{◌≡◌, ◌+◌, length, nat_le};
+ghost use Rattle.std.specs.Prelude.{◌≡◌};
 ghost use Rattle.image.specs.Fields as fields;
 
 use rights::Refusal;
@@ -8,32 +8,44 @@ use rights::Refusal;
 pub fn one(bytes: &[u8], at: usize) -> u8
     ensures { result ≡ fields.one bytes.now at }
 {
-    if at < bytes.len() { bytes[at] } else { 0 }
+    bytes.get(at).copied().unwrap_or(0)
 }
 
 // The two bytes at `at`.
 pub fn two(bytes: &[u8], at: usize) -> u16
     ensures { result ≡ fields.two bytes.now at }
 {
-    if at >= bytes.len() {
-        return 0;
-    }
-    u16::from_le_bytes([bytes[at], one(bytes, at + 1)])
+    u16::from_le_bytes([one(bytes, at), one(bytes, at.saturating_add(1))])
 }
 
-// Whether the `n` bytes at `at` are there.
-pub fn there(bytes: &[u8], at: usize, n: usize) -> bool
-    ensures { result ≡ nat_le (at + n) (length bytes.now) }
+// The place after the `n` bytes at `at`, if they are there.
+pub fn end_of(bytes: &[u8], at: usize, n: usize) -> Option<usize>
+    ensures { result ≡ fields.end_of bytes.now at n }
 {
-    n <= bytes.len() && at <= bytes.len() - n
+    at.checked_add(n).filter(|end| *end <= bytes.len())
 }
 
-// The place after the `n` bytes at `at`, which have to be there.
+// The same, where they have to be there.
 pub fn past(bytes: &[u8], at: usize, n: usize) -> Result<usize, Refusal>
     ensures { result ≡ fields.past bytes.now at n }
 {
-    if !there(bytes, at, n) {
-        return Err(Refusal::Length(bytes.len()));
-    }
-    Ok(at + n)
+    end_of(bytes, at, n).ok_or(Refusal::Length(bytes.len()))
+}
+
+// The byte at `at`, which has to be there, and the place after it.
+// It and `read_two` are no generic, which would take a width and how to read it, to be passed in
+// step, for two lines each.
+pub fn read_one(bytes: &[u8], at: usize) -> Result<(u8, usize), Refusal>
+    ensures { result ≡ fields.read_one bytes.now at }
+{
+    let next = past(bytes, at, 1)?;
+    Ok((one(bytes, at), next))
+}
+
+// The two bytes at `at`, which have to be there, and the place after them.
+pub fn read_two(bytes: &[u8], at: usize) -> Result<(u16, usize), Refusal>
+    ensures { result ≡ fields.read_two bytes.now at }
+{
+    let next = past(bytes, at, 2)?;
+    Ok((two(bytes, at), next))
 }

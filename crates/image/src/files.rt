@@ -1,5 +1,5 @@
 // Files that are read up to a limit, and the check of both files of a run.
-ghost use Rattle.std.specs.Prelude.{◌≡◌, ◌≤◌, true, take, IfOk, vec_len, nat_lt};
+ghost use Rattle.std.specs.Prelude.{◌≡◌, take, IfOk, vec_len, nat_lt};
 ghost use Rattle.image.specs.Limits as limits;
 ghost use Rattle.image.specs.Verdict as verdict;
 
@@ -10,7 +10,14 @@ use std::io::Read;
 use std::rt::Files;
 use std::{fs, io};
 
+// How many bytes of an image are read at most, and of a row of events.
+pub const IMAGE_LIMIT: usize = 2_097_152;
+
+pub const EVENTS_LIMIT: usize = 1_048_576;
+
 // The first bytes of a file, and whether it goes on beyond them.
+// A flag beside the bytes, since callers build parts of any length, so that an invariant would ask
+// more; and no enum, since both of its variants would carry the bytes.
 #[derive(Drop)]
 pub struct Part {
     pub bytes: Vec<u8>,
@@ -21,8 +28,7 @@ impl Part {
     // The first `limit` bytes of some.
     pub fn first(limit: usize, mut bytes: Vec<u8>) -> Part
         ensures bytes { result.bytes.items ≡ take limit bytes.items }
-        ensures within { vec_len result.bytes ≤ limit }
-        ensures full { result.more ≡ true → vec_len result.bytes ≡ limit }
+        ensures cut { limits.CutAt limit result }
         ensures more { result.more ≡ nat_lt limit (vec_len bytes) }
     {
         let more = limit < bytes.len();
@@ -32,7 +38,7 @@ impl Part {
 
     // Reads the first `limit` bytes of a file, and looks whether there is one more.
     pub fn read<R: Files + AllocGlobal>(rt: &R, path: &str, limit: usize) -> io::Result<Part>
-        ensures { IfOk result (λ p. (vec_len p.bytes ≤ limit) × (p.more ≡ true → vec_len p.bytes ≡ limit)) }
+        ensures { IfOk result (limits.CutAt limit) }
     {
         let mut bytes = Vec::new(rt.alloc());
         let file = fs::open(rt, path)?;
@@ -40,24 +46,10 @@ impl Part {
             .read_to_end(&mut bytes)?;
         Ok(Part::first(limit, bytes))
     }
-
-    // The first 2,097,152 bytes of an image.
-    pub fn read_image<R: Files + AllocGlobal>(rt: &R, path: &str) -> io::Result<Part>
-        ensures { IfOk result (λ p. (vec_len p.bytes ≤ 2097152) × (p.more ≡ true → vec_len p.bytes ≡ 2097152)) }
-    {
-        Part::read(rt, path, 2_097_152)
-    }
-
-    // The first 1,048,576 bytes of a row of events.
-    pub fn read_events<R: Files + AllocGlobal>(rt: &R, path: &str) -> io::Result<Part>
-        ensures { IfOk result (λ p. (vec_len p.bytes ≤ 1048576) × (p.more ≡ true → vec_len p.bytes ≡ 1048576)) }
-    {
-        Part::read(rt, path, 1_048_576)
-    }
 }
 
 // Which of the two files of a run cannot be read, and why.
-#[derive(Drop)]
+#[derive(Debug, Drop)]
 pub enum Unreadable {
     Image(io::Error),
     Events(io::Error),
@@ -71,19 +63,20 @@ pub struct Inputs {
 }
 
 impl Inputs {
-    // Reads both, each up to its own limit.
+    // Reads both, each up to its own limit; where neither can be read, it is the image that is told.
     pub fn read<R: Files + AllocGlobal>(
         rt: &R,
         image: &str,
         events: &str,
     ) -> Result<Inputs, Unreadable>
-        ensures { IfOk result (λ p. (p.image.more ≡ true → vec_len p.image.bytes ≡ 2097152) × (p.events.more ≡ true → vec_len p.events.bytes ≡ 1048576)) }
+        ensures { IfOk result (λ p. limits.CutAt 2097152 p.image × limits.CutAt 1048576 p.events) }
     {
-        match (Part::read_image(rt, image), Part::read_events(rt, events)) {
-            (Ok(image), Ok(events)) => Ok(Inputs { image, events }),
-            (Err(e), _) => Err(Unreadable::Image(e)),
-            (_, Err(e)) => Err(Unreadable::Events(e)),
-        }
+        let image = Part::read(rt, image, IMAGE_LIMIT);
+        let events = Part::read(rt, events, EVENTS_LIMIT);
+        Ok(Inputs {
+            image: image.map_err(Unreadable::Image)?,
+            events: events.map_err(Unreadable::Events)?,
+        })
     }
 
     // Whether they are taken, with `frames` frames lent: first what is wrong with the image, then

@@ -2,7 +2,7 @@
 ghost use Rattle.std.specs.Prelude.{◌≡◌, ◌+◌, ◌*◌, ◌^◌, ◌<◌, ◌≤◌};
 ghost use Rattle.image.specs.Layout as layout;
 
-use crate::headers::{is_a, size_at};
+use crate::headers::{kind_of, size_at};
 use rights::Kind;
 
 // Where object `o` begins, if `used` units lie before it.
@@ -10,10 +10,9 @@ fn begins(image: &[u8], o: u16, used: u64) -> u64
     requires { used < 2 ^ 60 }
     ensures { (result ≡ layout.begins image.now o used) × (result < used + 64) }
 {
-    if is_a(image, o, Kind::Pool) || is_a(image, o, Kind::Page) {
-        (used + 63) / 64 * 64
-    } else {
-        used
+    match kind_of(image, o) {
+        Ok(Kind::Pool | Kind::Page) => used.next_multiple_of(64),
+        _ => used,
     }
 }
 
@@ -21,20 +20,18 @@ fn begins(image: &[u8], o: u16, used: u64) -> u64
 fn takes(image: &[u8], o: u16) -> u64
     ensures { (result ≡ layout.takes image.now o) × (result + 64 ≤ 2 ^ 23) }
 {
-    if is_a(image, o, Kind::Pool) {
-        size_at(image, o) as u64 * 64
-    } else if is_a(image, o, Kind::Table) {
-        size_at(image, o) as u64
-    } else if is_a(image, o, Kind::Port) {
-        1
-    } else if is_a(image, o, Kind::Page) {
-        64
-    } else {
-        0
+    match kind_of(image, o) {
+        Ok(Kind::Pool) => u64::from(size_at(image, o)) * 64,
+        Ok(Kind::Table) => u64::from(size_at(image, o)),
+        Ok(Kind::Port) => 1,
+        Ok(Kind::Page) => 64,
+        Ok(Kind::Thread | Kind::Line) | Err(_) => 0,
     }
 }
 
 // How many units are used once the first `count` objects are laid out.
+// A loop and no `fold` (tried), whose closure would know no bound on what is used.
+#[tactic(auto, using(crate::proofs::Turns::fills_on, crate::proofs::Turns::filled_up))]
 fn filled(image: &[u8], count: u16) -> u64
     ensures { (result ≡ layout.filled image.now count 0 0) × (result ≤ count * 2 ^ 23) }
 {
@@ -56,5 +53,5 @@ pub fn place_of(image: &[u8], o: u16) -> u64
 pub fn frames_for(image: &[u8], objects: u16) -> u64
     ensures { result ≡ layout.frames_for image.now objects }
 {
-    (filled(image, objects) + 63) / 64
+    filled(image, objects).div_ceil(64)
 }

@@ -13,7 +13,7 @@ mod theorems;
 mod verdicts;
 
 pub use census::{Census, Kinds};
-pub use files::{Inputs, Part, Unreadable};
+pub use files::{EVENTS_LIMIT, IMAGE_LIMIT, Inputs, Part, Unreadable};
 pub use frames::{frames_for, place_of};
 pub use limits::{check_events_part, check_part};
 pub use rows::check_events;

@@ -3,22 +3,19 @@ ghost use Rattle.std.specs.Prelude.{◌≡◌};
 ghost use Rattle.image.specs.Limits as limits;
 
 use crate::census::{Census, Kinds};
-use crate::fields::{one, there};
-use crate::rows::check_events;
+use crate::fields::{end_of, one};
+use crate::rows::{EventKind, check_events};
 use crate::verdicts::check_with;
 use rights::Refusal;
 
 // The check of an image's first bytes: its faults come first, and then that `more` bytes follow.
+// Bytes and mark stand apart, here and for events: a `&Part` would ask the caller for a `Vec`.
 pub fn check_part(kinds: Kinds, image: &[u8], more: bool, frames: u32) -> Result<Census, Refusal>
     ensures { result ≡ limits.part_verdict kinds frames more image.now }
 {
-    let whole = check_with(kinds, image, frames);
-    if !more {
-        return whole;
-    }
-    match whole {
-        Ok(_) | Err(Refusal::Frames(_)) => Err(Refusal::Length(image.len())),
-        Err(refusal) => Err(refusal),
+    match check_with(kinds, image, frames) {
+        Ok(_) | Err(Refusal::Frames(_)) if more => Err(Refusal::Length(image.len())),
+        whole => whole,
     }
 }
 
@@ -26,29 +23,19 @@ pub fn check_part(kinds: Kinds, image: &[u8], more: bool, frames: u32) -> Result
 fn cut_in_two(events: &[u8], at: usize) -> bool
     ensures { result ≡ limits.cut_in_two events.now at }
 {
-    match one(events, at) {
-        0 => !there(events, at, 3),
-        1 => !there(events, at, 4),
-        _ => false,
-    }
+    let kind = EventKind::try_from(one(events, at));
+    kind.is_ok_and(|kind| end_of(events, at, kind.width()).is_none())
 }
 
 // The same of a row of events.
 pub fn check_events_part(image: &[u8], events: &[u8], more: bool) -> Result<(), Refusal>
     ensures { result ≡ limits.part_events more image.now events.now }
 {
-    let whole = check_events(image, events);
-    if !more {
-        return whole;
-    }
-    match whole {
-        Ok(()) => Err(Refusal::Event(events.len())),
-        Err(refusal) => {
-            if cut_in_two(events, refusal.place()) {
-                Err(Refusal::Event(events.len()))
-            } else {
-                Err(refusal)
-            }
+    match check_events(image, events) {
+        Ok(()) if more => Err(Refusal::Event(events.len())),
+        Err(refusal) if more && cut_in_two(events, refusal.place()) => {
+            Err(Refusal::Event(events.len()))
         }
+        whole => whole,
     }
 }

@@ -1,58 +1,100 @@
 // Rows of events.
 ghost use Rattle.std.specs.Prelude.{◌≡◌};
+ghost use Rattle.std.specs.Option.{ok_or};
+ghost use Rattle.rights.specs.declared.refusals.Refusal.TheVariants.{Event};
 ghost use Rattle.image.specs.Events as rows;
 
-use crate::fields::{one, there, two};
-use crate::headers::is_a;
+use crate::fields::{end_of, one, two};
+use crate::headers::Image;
 use rights::{Kind, Refusal};
 
-// An event of a width that names an object of a kind: the place after it.
-fn event_of(
-    image: &[u8],
-    objects: u16,
-    events: &[u8],
-    at: usize,
-    width: usize,
-    kind: Kind,
-) -> Result<usize, Refusal>
-    ensures { result ≡ rows.event_of image.now objects events.now at width kind }
-{
-    if !there(events, at, width) {
-        return Err(Refusal::Event(at));
-    }
-    let o = two(events, at + 1);
-    if o >= objects || !is_a(image, o, kind) {
-        return Err(Refusal::Event(at));
-    }
-    Ok(at + width)
+// What happens in an event: a thread is given an instruction's time, or a byte comes in at a line.
+#[derive(Clone, Copy, Debug, PartialEq, Eq)]
+pub enum EventKind {
+    Tick,
+    Byte,
 }
 
-// One event, by its kind: 0 for a thread's instruction, 1 for a byte that comes in at a line.
-fn event(image: &[u8], objects: u16, events: &[u8], at: usize) -> Result<usize, Refusal>
-    ensures { result ≡ rows.event image.now objects events.now at }
-{
-    match one(events, at) {
-        0 => event_of(image, objects, events, at, 3, Kind::Thread),
-        1 => event_of(image, objects, events, at, 4, Kind::Line),
-        _ => Err(Refusal::Event(at)),
+// A number that no kind of event has.
+#[derive(Clone, Copy, Debug, PartialEq, Eq)]
+pub struct UnknownEvent {
+    pub number: u8,
+}
+
+impl TryFrom<u8> for EventKind {
+    type Error = UnknownEvent;
+
+    ghost try_from_gives = { λ n r. r ≡ rows.event_kind n };
+
+    fn try_from(number: u8) -> Result<EventKind, UnknownEvent> {
+        match number {
+            0 => Ok(EventKind::Tick),
+            1 => Ok(EventKind::Byte),
+            _ => Err(UnknownEvent { number }),
+        }
     }
 }
 
-// All events, one after the other.
-fn all_events(image: &[u8], objects: u16, events: &[u8]) -> Result<usize, Refusal>
-    ensures { result ≡ rows.all_events image.now objects events.now }
-{
-    let mut at = 0;
-    while at < events.len() {
-        at = event(image, objects, events, at)?;
+impl EventKind {
+    // How many bytes an event of the kind has.
+    pub fn width(self) -> usize
+        ensures { result ≡ rows.width self }
+    {
+        match self {
+            EventKind::Tick => 3,
+            EventKind::Byte => 4,
+        }
     }
-    Ok(at)
+
+    // The kind of object that it names.
+    fn named(self) -> Kind
+        ensures { result ≡ rows.named self }
+    {
+        match self {
+            EventKind::Tick => Kind::Thread,
+            EventKind::Byte => Kind::Line,
+        }
+    }
+}
+
+impl Image<'_> {
+    // The place after the event at `at`, if it is there whole and names an object of the image.
+    fn event_end(&self, events: &[u8], at: usize) -> Option<usize>
+        ensures { ok_or result (Event at) ≡ rows.event self.now.bytes.now self.now.objects events.now at }
+    {
+        let kind = EventKind::try_from(one(events, at)).ok()?;
+        let end = end_of(events, at, kind.width())?;
+        self.has(two(events, at + 1), kind.named()).then_some(end)
+    }
+
+    // The place after the event at `at`, which has to be right.
+    fn event(&self, events: &[u8], at: usize) -> Result<usize, Refusal>
+        ensures { result ≡ rows.event self.now.bytes.now self.now.objects events.now at }
+    {
+        self.event_end(events, at).ok_or(Refusal::Event(at))
+    }
+
+    // All events, one after the other.
+    // The place moves by hand, since each event's kind says its width.
+    fn all_events(&self, events: &[u8]) -> Result<usize, Refusal>
+        ensures { result ≡ rows.all_events self.now.bytes.now self.now.objects events.now }
+    {
+        let mut at = 0;
+        while at < events.len() {
+            at = self.event(events, at)?;
+        }
+        Ok(at)
+    }
 }
 
 // Whether a row of events is one of an image that was taken; else the first event that is wrong.
 pub fn check_events(image: &[u8], events: &[u8]) -> Result<(), Refusal>
     ensures { result ≡ rows.events image.now events.now }
 {
-    let _ = all_events(image, two(image, 4), events)?;
+    let image = Image {
+        bytes: image,
+        objects: two(image, 4),
+    };
+    let _ = image.all_events(events)?;
     Ok(())
 }

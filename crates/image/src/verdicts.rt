@@ -3,9 +3,8 @@ ghost use Rattle.std.specs.Prelude.{◌≡◌};
 ghost use Rattle.image.specs.Verdict as verdict;
 
 use crate::census::{Census, Kinds};
-use crate::content::body;
 use crate::frames::frames_for;
-use crate::headers::{count, headers, magic};
+use crate::headers::Image;
 use rights::Refusal;
 
 // Takes an image with objects of the kinds that are let in, if it fits into `frames` frames, of
@@ -13,15 +12,14 @@ use rights::Refusal;
 pub fn check_with(kinds: Kinds, image: &[u8], frames: u32) -> Result<Census, Refusal>
     ensures { result ≡ verdict.verdict kinds frames image.now }
 {
-    let _ = magic(image)?;
-    let objects = count(image)?;
-    let census = headers(kinds, image, objects)?;
-    let end = body(image, objects)?;
-    if image.len() > end {
+    let image = Image::open(image)?;
+    let census = image.headers(kinds)?;
+    let end = image.body()?;
+    if image.bytes.len() > end {
         return Err(Refusal::Length(end));
     }
-    let needed = frames_for(image, objects);
-    if needed > frames.min(4096) as u64 {
+    let needed = frames_for(image.bytes, image.objects);
+    if needed > u64::from(frames.min(4096)) {
         return Err(Refusal::Frames(needed));
     }
     Ok(census)

@@ -1,0 +1,7 @@
+use Rattle.std.proofs.Common.{rules}
+use Rattle.image.specs.Format.{mapping}
+use Rattle.image.proofs.Turns.{folds}
+use Rattle.image.proofs.headers.Image.space.Goals as goal
+
+pub returns : goal.returns
+returns c = folds _ _ (λ _ a. mapping c.args.self.now.bytes.now c.args.self.now.objects a) (λ a i r q k. search rules) _ _ _ _ c.try_fold.ensures.ran
