@@ -1,14 +1,14 @@
 -- Reading and writing the world in the code's parts is reading and writing the abstract world.
-use Rattle.std.proofs.Common.{◌≡◌, ℕ, zero, suc, ◌-◌, Bool, true, false, cond, ◌&&◌, eqb, ltb, List, [], ◌∷◌, map, reverse, length, get_or, set, Some, None, Option, sym, refl, ap, ◌∙◌, arith, ltb-false, le-ltb, ne_eqb}
-use Rattle.std.proofs.lemmas.List.{map-set, length-map, set_past, get_or_past, set-get_or}
+use Rattle.std.proofs.Common.{◌≡◌, ℕ, zero, suc, ◌-◌, Bool, true, false, ◌&&◌, eqb, ltb, List, [], ◌∷◌, map, reverse, length, get_or, set, Some, None, Option, sym, refl, ap, ◌∙◌, arith, le-ltb, ne_eqb}
+use Rattle.std.specs.Option.{is_none}
+use Rattle.std.proofs.lemmas.List.{map-set, length-map, set-get_or}
 use Rattle.rights.specs.World as w
 use Rattle.rv32.specs.declared.registers.Cpu.{Cpu}
 use Rattle.rv32.specs.Registers.{fresh}
 use Rattle.rv32.specs.Execute.{act}
-use Rattle.model.specs.declared.objects.Slot.{Slot}
-use Rattle.model.specs.declared.objects.Slot.TheVariants.{Empty, Full}
+use Rattle.model.specs.declared.objects.Capability.{Capability}
 use Rattle.model.specs.Plain as p
-use Rattle.model.specs.Meaning.{slot_of, number_of, object_of, world_of}
+use Rattle.model.specs.Meaning.{cap_of, slot_of, number_of, object_of, world_of}
 
 -- the abstract world's functions, at the core
 abbrev pub object : w.World Cpu → ℕ → w.Object Cpu
@@ -62,7 +62,7 @@ at_world v n = read_any object_of v.things n p.gone
 
 pub put_world : (v : p.Whole) (n : ℕ) (x : p.Thing) → world_of (p.with_object v n x) ≡ with_object (world_of v) n (object_of x)
 unfolding p.with_object w.with_object
-put_world v n x = ap (λ xs. record { objects = xs; births = v.births; lineage = reverse (map slot_of v.lineage) }) (map-set object_of v.things n x)
+put_world v n x = ap (λ xs. record { objects = xs; births = v.births; lineage = reverse (map cap_of v.lineage) }) (map-set object_of v.things n x)
 
 pub same_object : (v : w.World Cpu) (o : ℕ) → with_object v o (object v o) ≡ v
 unfolding w.object w.with_object
@@ -72,58 +72,30 @@ same_object v o = ap (λ xs. record { objects = xs; births = v.births; lineage =
 table_world : (x : p.Thing) → number_of (p.table_of x) ≡ table_of (object_of x)
 unfolding w.table_of
 table_world p.gone = refl
-table_world (p.pool f n u) = refl
-table_world (p.port f q) = refl
-table_world (p.page f bs) = refl
-table_world (p.thread t) = refl
-table_world (p.line xs ys) = refl
-table_world (p.table f ss) = refl
+table_world _ = refl
 
 pub tables : (v : p.Whole) (q : ℕ) → number_of (p.table_of (p.object v q)) ≡ table_of (object (world_of v) q)
 tables v q = table_world (p.object v q) ∙ ap table_of (at_world v q)
 
 slot_at_world : (x : p.Thing) (s : ℕ) → slot_of (p.slot_at x s) ≡ get_or (slots_of (object_of x)) s w.empty
 unfolding w.slots_of
-slot_at_world p.gone s = refl
-slot_at_world (p.pool f n u) s = refl
-slot_at_world (p.port f q) s = refl
-slot_at_world (p.page f bs) s = refl
-slot_at_world (p.thread t) s = refl
-slot_at_world (p.line xs ys) s = refl
-slot_at_world (p.table f ss) s = inside (ltb s (length ss)) refl
-  where
-    inside : (t : Bool) → ltb s (length ss) ≡ t → slot_of (cond t (get_or ss s Empty) Empty) ≡ get_or (map slot_of ss) s w.empty
-    inside true e = read_any slot_of ss s Empty
-    inside false e = sym (get_or_past (map slot_of ss) s w.empty (rw length-map (ltb-false s (length ss) e)))
+slot_at_world (p.table f ss) s = read_any slot_of ss s None
+slot_at_world _ s = refl
 
 has_at_world : (x : p.Thing) (s : ℕ) → p.has_at x s ≡ ltb s (length (slots_of (object_of x)))
 unfolding w.slots_of
-has_at_world p.gone s = sym (le-ltb s 0 (omega arith))
-has_at_world (p.pool f n u) s = sym (le-ltb s 0 (omega arith))
-has_at_world (p.port f q) s = sym (le-ltb s 0 (omega arith))
-has_at_world (p.page f bs) s = sym (le-ltb s 0 (omega arith))
-has_at_world (p.thread t) s = sym (le-ltb s 0 (omega arith))
-has_at_world (p.line xs ys) s = sym (le-ltb s 0 (omega arith))
 has_at_world (p.table f ss) s = rw length-map refl
+has_at_world _ s = sym (le-ltb s 0 (omega arith))
 
-put_at_world : (x : p.Thing) (s : ℕ) (c : Slot) → object_of (p.put_at x s c) ≡ with_slots (object_of x) (set (slots_of (object_of x)) s (slot_of c))
+put_at_world : (x : p.Thing) (s : ℕ) (c : Option Capability) → object_of (p.put_at x s c) ≡ with_slots (object_of x) (set (slots_of (object_of x)) s (slot_of c))
 unfolding w.slots_of w.with_slots
-put_at_world p.gone s c = refl
-put_at_world (p.pool f n u) s c = refl
-put_at_world (p.port f q) s c = refl
-put_at_world (p.page f bs) s c = refl
-put_at_world (p.thread t) s c = refl
-put_at_world (p.line xs ys) s c = refl
-put_at_world (p.table f ss) s c = inside (ltb s (length ss)) refl
-  where
-    inside : (t : Bool) → ltb s (length ss) ≡ t → object_of (cond t (p.table f (set ss s c)) (p.table f ss)) ≡ w.table (number_of f) (set (map slot_of ss) s (slot_of c))
-    inside true e = ap (w.table (number_of f)) (map-set slot_of ss s c)
-    inside false e = ap (w.table (number_of f)) (sym (set_past (map slot_of ss) s (slot_of c) (rw length-map (ltb-false s (length ss) e))))
+put_at_world (p.table f ss) s c = ap (w.table (number_of f)) (map-set slot_of ss s c)
+put_at_world _ s c = refl
 
-pub empty_world : (c : Slot) → p.is_empty c ≡ w.is_empty (slot_of c)
+pub empty_world : (c : Option Capability) → is_none c ≡ w.is_empty (slot_of c)
 unfolding w.is_empty
-empty_world Empty = refl
-empty_world (Full c) = refl
+empty_world None = refl
+empty_world (Some c) = refl
 
 -- slots of a thread's table
 slot_none : (v : w.World Cpu) (q s : ℕ) → 0 ≡ table_of (object v q) → w.empty ≡ slot v q s
@@ -162,35 +134,35 @@ has_by_world v q s (Some t) e = has_at_world (p.object v t) s ∙ ap (λ x. ltb 
 -- a slot that is there and empty
 pub free_world : (v : p.Whole) (q s : ℕ) → p.free v q s ≡ (has_slot (world_of v) q s && w.is_empty (slot (world_of v) q s))
 free_world v q s =
-    ap (λ t. t && p.is_empty (p.slot v q s)) (has_by_world v q s (p.table_of (p.object v q)) (tables v q))
+    ap (λ t. t && is_none (p.slot v q s)) (has_by_world v q s (p.table_of (p.object v q)) (tables v q))
     ∙ ap (λ t. has_slot (world_of v) q s && t) (empty_world (p.slot v q s) ∙ ap w.is_empty (slot_world v q s))
 
 -- WRITES. A thread with a table
 abbrev pub Tabled : p.Whole → ℕ → Type 0
 Tabled v q = (t : ℕ) × (p.table_of (p.object v q) ≡ Some t)
 
-put_by_world : (v : p.Whole) (q s : ℕ) (c : Slot) (t : ℕ) (m : Option ℕ) → m ≡ Some t → number_of m ≡ table_of (object (world_of v) q) →
+put_by_world : (v : p.Whole) (q s : ℕ) (c : Option Capability) (t : ℕ) (m : Option ℕ) → m ≡ Some t → number_of m ≡ table_of (object (world_of v) q) →
     world_of (p.put_by v m s c) ≡ with_slot (world_of v) q s (slot_of c)
-put_by_world v q s c t None h e = absurd (let z : ◌≡◌ {A = ℕ} 0 1 = cc in omega arith)
+put_by_world v q s c t None h e = cc
 put_by_world v q s c t (Some u) h e =
     put_world v u (p.put_at (p.object v u) s c)
     ∙ ap (with_object (world_of v) u) (put_at_world (p.object v u) s c ∙ ap (λ x. with_slots x (set (slots_of x) s (slot_of c))) (at_world v u))
     ∙ put_some (world_of v) q s u (slot_of c) e
 
-pub with_world : (v : p.Whole) (q s : ℕ) (c : Slot) → Tabled v q → world_of (p.with_slot v q s c) ≡ with_slot (world_of v) q s (slot_of c)
+pub with_world : (v : p.Whole) (q s : ℕ) (c : Option Capability) → Tabled v q → world_of (p.with_slot v q s c) ≡ with_slot (world_of v) q s (slot_of c)
 with_world v q s c (t, h) = put_by_world v q s c t (p.table_of (p.object v q)) h (tables v q)
 
 -- who has a table
-full_tabled : (v : p.Whole) (s : ℕ) (m : Option ℕ) → p.is_empty (p.slot_by v m s) ≡ false → (t : ℕ) × (m ≡ Some t)
-full_tabled v s None e = absurd (let z : ◌≡◌ {A = ℕ} 0 1 = cc in omega arith)
+full_tabled : (v : p.Whole) (s : ℕ) (m : Option ℕ) → is_none (p.slot_by v m s) ≡ false → (t : ℕ) × (m ≡ Some t)
+full_tabled v s None e = cc
 full_tabled v s (Some t) e = (t, refl)
 
-pub full_has : (v : p.Whole) (q s : ℕ) → p.is_empty (p.slot v q s) ≡ false → Tabled v q
+pub full_has : (v : p.Whole) (q s : ℕ) → is_none (p.slot v q s) ≡ false → Tabled v q
 full_has v q s e = full_tabled v s (p.table_of (p.object v q)) e
 
 free_tabled : (v : p.Whole) (s : ℕ) (m : Option ℕ) (b : Bool) → (p.has_by v m s && b) ≡ true → (t : ℕ) × (m ≡ Some t)
-free_tabled v s None b e = absurd (let z : ◌≡◌ {A = ℕ} 0 1 = cc in omega arith)
+free_tabled v s None b e = cc
 free_tabled v s (Some t) b e = (t, refl)
 
 pub free_has : (v : p.Whole) (q s : ℕ) → p.free v q s ≡ true → Tabled v q
-free_has v q s e = free_tabled v s (p.table_of (p.object v q)) (p.is_empty (p.slot v q s)) e
+free_has v q s e = free_tabled v s (p.table_of (p.object v q)) (is_none (p.slot v q s)) e

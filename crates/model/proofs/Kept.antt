@@ -1,33 +1,22 @@
 -- A sound world stays sound: what calls do to one object.
-use Rattle.std.proofs.Common.{◌≡◌, ℕ, Bool, true, false, cond, ◌&&◌, ltb, ◌⊎◌, List, [], ◌∷◌, ◌++◌, length, get_or, set, Some, None, Option, sym, refl, ap, ◌∙◌, subst, inl, inr, arith, get_or-set_other, get_or-set_same}
-use Rattle.std.proofs.lemmas.List.{set_past}
-use Rattle.std.proofs.lemmas.Bool.{cases_lt, cases_eq}
+use Rattle.std.proofs.Common.{◌≡◌, ℕ, Bool, true, false, cond, ◌&&◌, ltb, List, [], ◌∷◌, ◌++◌, length, Some, sym, refl, ap, ◌∙◌, subst, inl, inr}
+use Rattle.std.specs.Option.{is_none}
 use Rattle.rights.specs.declared.answers.Answer.{Answer}
 use Rattle.rights.specs.declared.answers.Answer.TheVariants.{No, Done}
 use Rattle.rv32.specs.declared.registers.Cpu.{Cpu}
+use Rattle.model.specs.declared.objects.Mapping.{Mapping}
 use Rattle.model.specs.declared.objects.State.{State}
 use Rattle.model.specs.declared.objects.Thread.{Thread}
 use Rattle.model.specs.Plain as p
 use Rattle.model.specs.Calls as calls
 use Rattle.model.specs.Turns as turns
 use Rattle.model.specs.Sound.{Sound}
+use Rattle.model.proofs.Lists.{wrote}
 use Rattle.model.proofs.Keeping.{Fit, by_thread, by_line, same_fit, line_fit, thread_fit}
 
 by_cond : {A : Type 0} (P : A → Type 0) (b : Bool) (x y : A) → P x → P y → P (cond b x y)
 by_cond P true x y h k = h
 by_cond P false x y h k = k
-
--- an element after one was written
-wrote : {X : Type 0} (xs : List X) (i k : ℕ) (x d : X) → (get_or (set xs i x) k d ≡ x) ⊎ (get_or (set xs i x) k d ≡ get_or xs k d)
-wrote xs i k x d =
-    elim (cases_eq k i) [
-      | inl e ↦
-          elim (cases_lt i (length xs)) [
-            | inl l ↦ inl (rw e (get_or-set_same xs i x d l))
-            | inr l ↦ inr (ap (λ ys. get_or ys k d) (set_past xs i x l))
-          ]
-      | inr n ↦ inr (get_or-set_other xs i k x d n)
-    ]
 
 module _ (v : p.Whole) (so : Sound v) (o : ℕ) where
   abbrev x : p.Thing
@@ -59,7 +48,7 @@ module _ (v : p.Whole) (so : Sound v) (o : ℕ) where
   -- threads: pages stay, or are added or taken away
   same_pages : (t s : Thread) → p.object v o ≡ p.thread t → s.pages ≡ t.pages → Fit v (p.object v o) (p.thread s)
   same_pages t s e h =
-      subst (λ z. Fit v z (p.thread s)) (sym e) (thread_fit v t s (λ k n g. so.paged o k n t e (ap (λ ps. get_or ps k None) (sym h) ∙ g)))
+      subst (λ z. Fit v z (p.thread s)) (sym e) (thread_fit v t s (λ k n g. so.paged o k n t e (ap (λ ps. p.page_at ps k) (sym h) ∙ g)))
 
   pub starts_fit : (c : Cpu) (s : State) (a : Answer) → ((t : Thread) → Bool) → Fit v (p.object v o) (turns.set_state s c (p.object v o))
   starts_fit c s a b =
@@ -83,21 +72,24 @@ module _ (v : p.Whole) (so : Sound v) (o : ℕ) where
   resumed_fit a =
       by_thread (λ l. Fit v (p.object v o) l) (p.object v o) (p.object v o) _ (same_fit v so o) (λ t e. same_pages t _ e refl)
 
-  paged_with : (t : Thread) (a : ℕ) (m : Option ℕ) (b : Bool) → p.object v o ≡ p.thread t → ((n : ℕ) → m ≡ Some n → calls.is_page (p.object v n) ≡ true) →
-      Fit v (p.object v o) (p.thread (calls.with_page t a m b))
-  paged_with t a m b e h =
-      subst (λ z. Fit v z (p.thread (calls.with_page t a m b))) (sym e)
-      (thread_fit v t (calls.with_page t a m b)
-      (λ k n g. elim (wrote t.pages a k m None) [ inl q ↦ h n (sym q ∙ g) | inr q ↦ so.paged o k n t e (sym q ∙ g) ]))
+  paged_with : (t : Thread) (a : ℕ) (m : Mapping) → p.object v o ≡ p.thread t → ((n : ℕ) → m.page ≡ Some n → calls.is_page (p.object v n) ≡ true) →
+      Fit v (p.object v o) (p.thread (calls.with_page t a m))
+  paged_with t a m e h =
+      subst (λ z. Fit v z (p.thread (calls.with_page t a m))) (sym e)
+      (thread_fit v t (calls.with_page t a m)
+      (λ k n g. elim (wrote t.pages a k m p.unmapped) [ inl q ↦ so.paged o k n t e (sym (paged q) ∙ g) | inr q ↦ h n (sym (paged q.1) ∙ g) ]))
+    where
+      paged : {x y : Mapping} → x ≡ y → x.page ≡ y.page
+      paged q = ap (λ z. z.page) q
 
   pub maps_fit : (a n : ℕ) (m : Bool) → calls.is_page (p.object v n) ≡ true → Fit v (p.object v o) (calls.maps a n m (p.object v o)).it
   maps_fit a n m h =
       by_thread (λ l. Fit v (p.object v o) l.it) (p.object v o) (p.left (p.object v o) No) _ (same_fit v so o)
-      (λ t e. by_cond {A = p.Left} (λ l. Fit v (p.object v o) l.it) (ltb a 64 && p.is_none (get_or t.pages a None)) _ _
-      (paged_with t a (Some n) m e (λ i q. let r : n ≡ i = cc in subst (λ k. calls.is_page (p.object v k) ≡ true) r h)) (same_fit v so o))
+      (λ t e. by_cond {A = p.Left} (λ l. Fit v (p.object v o) l.it) (ltb a 64 && is_none (p.page_at t.pages a)) _ _
+      (paged_with t a (record { page = Some n; writes = m }) e (λ i q. let r : n ≡ i = cc in subst (λ k. calls.is_page (p.object v k) ≡ true) r h)) (same_fit v so o))
 
   pub unmaps_fit : (a : ℕ) → Fit v (p.object v o) (calls.unmaps a (p.object v o)).it
   unmaps_fit a =
       by_thread (λ l. Fit v (p.object v o) l.it) (p.object v o) (p.left (p.object v o) No) _ (same_fit v so o)
       (λ t e. by_cond {A = p.Left} (λ l. Fit v (p.object v o) l.it) (ltb a 64) _ _
-      (paged_with t a None false e (λ i q. absurd (let z : ◌≡◌ {A = ℕ} 0 1 = cc in omega arith))) (same_fit v so o))
+      (paged_with t a p.unmapped e (λ i q. cc)) (same_fit v so o))

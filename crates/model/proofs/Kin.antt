@@ -1,20 +1,21 @@
 -- The marks of the lineage are the abstract world's offspring, and the marks of the objects are what was cut.
 use Rattle.std.proofs.Common.{◌≡◌, ℕ, zero, suc, ◌+◌, ◌-◌, ◌<◌, ◌≤◌, Bool, false, cond, not, ◌&&◌, ◌||◌, eqb, ltb, ◌⊎◌, List, [], ◌∷◌, ◌++◌, map, reverse, length, get_or, take, Some, None, Option, sym, refl, ap, ◌∙◌, subst, inl, inr, arith}
+use Rattle.std.specs.List.{slice_get}
+use Rattle.std.proofs.lemmas.Option.{slice_get_cases}
 use Rattle.std.proofs.lemmas.List.{get_or_past, get_or-take, reverse-append, length-map}
 use Rattle.std.proofs.lemmas.Bool.{cases_lt, cases_eq, lt-ltb, le-ltb}
 use Rattle.rights.specs.World as w
 use Rattle.rv32.specs.declared.registers.Cpu.{Cpu}
 use Rattle.rv32.specs.Registers.{fresh}
 use Rattle.rv32.specs.Execute.{act}
-use Rattle.model.specs.declared.objects.Slot.{Slot}
-use Rattle.model.specs.declared.objects.Slot.TheVariants.{Empty, Full}
+use Rattle.model.specs.declared.objects.Capability.{Capability}
 use Rattle.model.specs.Plain as p
-use Rattle.model.specs.Sweeps.{marked, mark_of, marks_from, base_of, marks, cut_mark, cut_marks_from}
+use Rattle.model.specs.Sweeps.{scan, marked, mark_of, base_of, marks, cut_mark}
 use Rattle.model.specs.Sound.{Dense, Sound}
-use Rattle.model.specs.Meaning.{slot_of, number_of, object_of, world_of}
+use Rattle.model.specs.Meaning.{cap_of, number_of, object_of, world_of}
 use Rattle.model.proofs.Agree.{less_one, not_zero}
 use Rattle.model.proofs.Descent.{Made, Orderly, up_by, test_is}
-use Rattle.model.proofs.Scans.{scan, marks_scan, cuts_scan, scan_length, scan_at}
+use Rattle.model.proofs.Scans.{scan_long, scan_all}
 
 -- LINEAGE
 made_append : (xs ys : List w.Slot) (m c : ℕ) → Made (xs ++ ys) m c → Made xs m c ⊎ Made ys m c
@@ -38,54 +39,52 @@ made_right [] ys m c h = h
 made_right (w.empty ∷ xs) ys m c h = made_right xs ys m c h
 made_right (w.cap o r b i j ∷ xs) ys m c h = inr (made_right xs ys m c h)
 
-newest : List Slot → List w.Slot
-newest xs = reverse (map slot_of xs)
+newest : List Capability → List w.Slot
+newest xs = reverse (map cap_of xs)
 
-newest_cons : (x : Slot) (xs : List Slot) → newest (x ∷ xs) ≡ newest xs ++ slot_of x ∷ []
+newest_cons : (x : Capability) (xs : List Capability) → newest (x ∷ xs) ≡ newest xs ++ cap_of x ∷ []
 unfolding newest
-newest_cons x xs = reverse-append (slot_of x ∷ []) (map slot_of xs)
+newest_cons x xs = reverse-append (cap_of x ∷ []) (map cap_of xs)
 
-abbrev mother_in : Slot → Option ℕ
-mother_in x = p.on_full x None (λ d. Some d.mother)
+abbrev mother_in : Option Capability → Option ℕ
+mother_in x = p.on_some x None (λ d. Some d.mother)
 
-abbrev mother_at : ℕ → List Slot → ℕ → Option ℕ
-mother_at top xs c = cond (ltb top c) (mother_in (get_or xs (c - suc top) Empty)) None
+abbrev mother_at : ℕ → List Capability → ℕ → Option ℕ
+mother_at top xs c = cond (ltb top c) (mother_in (slice_get xs (c - suc top))) None
 
 -- who was made from whom, by places
-fits : (top : ℕ) (xs : List Slot) → Dense top xs → (m c : ℕ) → Made (newest xs) m c → (top < c) × (c ≤ top + length xs) × (m < c) × (mother_in (get_or xs (c - suc top) Empty) ≡ Some m)
+fits : (top : ℕ) (xs : List Capability) → Dense top xs → (m c : ℕ) → Made (newest xs) m c → (top < c) × (c ≤ top + length xs) × (m < c) × (mother_in (slice_get xs (c - suc top)) ≡ Some m)
 unfolding Dense Made newest
 fits top [] d m c h = absurd h
-fits top (Empty ∷ xs) d m c h = absurd d
-fits top (Full x ∷ xs) d m c h =
-    elim (made_append (newest xs) (slot_of (Full x) ∷ []) m c (subst (λ l. Made l m c) (newest_cons (Full x) xs) h)) [
+fits top (x ∷ xs) d m c h =
+    elim (made_append (newest xs) (cap_of x ∷ []) m c (subst (λ l. Made l m c) (newest_cons x xs) h)) [
       | inl k ↦
           (let r = fits (suc top) xs d.2 m c k in
           let e : c - suc top ≡ suc (c - suc (suc top)) = omega (arith, r.0) in
-          (omega (arith, r.0), omega (arith, r.1), r.2, ap (λ i. mother_in (get_or (Full x ∷ xs) i Empty)) e ∙ r.3))
+          (omega (arith, r.0), omega (arith, r.1), r.2, ap (λ i. mother_in (slice_get (x ∷ xs) i)) e ∙ r.3))
       | inr k ↦
           elim k [
             | inl q ↦
                 (let e : c - suc top ≡ 0 = omega (arith, q.1, d.0) in
-                (omega (arith, q.1, d.0), omega (arith, q.1, d.0), omega (arith, q.0, q.1, d.0, d.1), ap (λ i. mother_in (get_or (Full x ∷ xs) i Empty)) e ∙ ap Some q.0))
+                (omega (arith, q.1, d.0), omega (arith, q.1, d.0), omega (arith, q.0, q.1, d.0, d.1), ap (λ i. mother_in (slice_get (x ∷ xs) i)) e ∙ ap Some q.0))
             | inr q ↦ absurd q
           ]
     ]
 
-backs : (top : ℕ) (xs : List Slot) → Dense top xs → (m c : ℕ) → top < c → mother_in (get_or xs (c - suc top) Empty) ≡ Some m → Made (newest xs) m c
+backs : (top : ℕ) (xs : List Capability) → Dense top xs → (m c : ℕ) → top < c → mother_in (slice_get xs (c - suc top)) ≡ Some m → Made (newest xs) m c
 unfolding Dense Made newest
-backs top [] d m c l h = absurd (let z : ◌≡◌ {A = ℕ} 0 1 = cc in omega arith)
-backs top (Empty ∷ xs) d m c l h = absurd d
-backs top (Full x ∷ xs) d m c l h =
+backs top [] d m c l h = cc
+backs top (x ∷ xs) d m c l h =
     elim (cases_eq c (suc top)) [
       | inl e ↦
           (let i : c - suc top ≡ 0 = omega arith in
-          let q : Some x.mother ≡ Some m = sym (ap (λ k. mother_in (get_or (Full x ∷ xs) k Empty)) i) ∙ h in
+          let q : Some x.mother ≡ Some m = sym (ap (λ k. mother_in (slice_get (x ∷ xs) k)) i) ∙ h in
           let n : x.mother ≡ m = cc in
-          subst (λ l. Made l m c) (sym (newest_cons (Full x) xs)) (made_right (newest xs) (slot_of (Full x) ∷ []) m c (inl (n, d.0 ∙ sym e))))
+          subst (λ l. Made l m c) (sym (newest_cons x xs)) (made_right (newest xs) (cap_of x ∷ []) m c (inl (n, d.0 ∙ sym e))))
       | inr n ↦
           (let i : c - suc top ≡ suc (c - suc (suc top)) = omega (arith, n) in
-          let q : mother_in (get_or xs (c - suc (suc top)) Empty) ≡ Some m = sym (ap (λ k. mother_in (get_or (Full x ∷ xs) k Empty)) i) ∙ h in
-          subst (λ l. Made l m c) (sym (newest_cons (Full x) xs)) (made_left (newest xs) (slot_of (Full x) ∷ []) m c (backs (suc top) xs d.2 m c (omega (arith, n)) q)))
+          let q : mother_in (slice_get xs (c - suc (suc top))) ≡ Some m = sym (ap (λ k. mother_in (slice_get (x ∷ xs) k)) i) ∙ h in
+          subst (λ l. Made l m c) (sym (newest_cons x xs)) (made_left (newest xs) (cap_of x ∷ []) m c (backs (suc top) xs d.2 m c (omega (arith, n)) q)))
     ]
 
 -- marks of a front are the marks, for those before its end
@@ -97,37 +96,37 @@ marked_front base ms k m h =
     ]
 
 -- a mark goes up by the mother
-mark_up : (root base : ℕ) (ms : List Bool) (x : Slot) (g : ℕ → Bool) → ((m : ℕ) → mother_in x ≡ Some m → marked base ms m ≡ g m) → mark_of root base ms x ≡ up_by root g (mother_in x)
-mark_up root base ms Empty g h = refl
-mark_up root base ms (Full d) g h = ap (λ b. eqb d.mother root || b) (h d.mother refl)
+mark_up : (root base : ℕ) (ms : List Bool) (x : Capability) (g : ℕ → Bool) → marked base ms x.mother ≡ g x.mother → mark_of root base ms x ≡ up_by root g (Some x.mother)
+mark_up root base ms x g h = ap (λ b. eqb x.mother root || b) h
 
-module _ (root base : ℕ) (xs : List Slot) (d : Dense base xs) where
+module _ (root base : ℕ) (xs : List Capability) (d : Dense base xs) where
   abbrev all : List Bool
-  all = marks_from root base [] xs
+  all = scan (mark_of root base) [] xs
 
   all_length : length all ≡ length xs
-  all_length = ap length (marks_scan root base [] xs) ∙ scan_length (mark_of root base) [] xs ∙ (let z : 0 + length xs ≡ length xs = omega arith in z)
+  all_length = scan_long (mark_of root base) xs
 
-  all_at : (k : ℕ) → k < length xs → get_or all k false ≡ mark_of root base (take k all) (get_or xs k Empty)
-  all_at k h =
-      let z : 0 + k ≡ k = omega arith in
-      let s = scan_at (mark_of root base) [] xs k Empty h in
-      let t = subst (λ i. get_or (scan (mark_of root base) [] xs) i false ≡ mark_of root base (take i (scan (mark_of root base) [] xs)) (get_or xs k Empty)) z s in
-      subst (λ ms. get_or ms k false ≡ mark_of root base (take k ms) (get_or xs k Empty)) (sym (marks_scan root base [] xs)) t
+  -- the mark at a place that has a capability, and at one past the end
+  up_at : (c : ℕ) (x : Capability) → base < c → c - suc base < length xs → slice_get xs (c - suc base) ≡ Some x → get_or xs (c - suc base) x ≡ x →
+      get_or all (c - suc base) false ≡ up_by root (marked base all) (mother_in (slice_get xs (c - suc base)))
+  up_at c x l h e r =
+      let b = backs base xs d x.mother c l (ap mother_in e) in
+      let f = fits base xs d x.mother c b in
+      scan_all (mark_of root base) xs (c - suc base) x h ∙ ap (mark_of root base (take (c - suc base) all)) r
+      ∙ mark_up root base (take (c - suc base) all) x (marked base all) (marked_front base all (c - suc base) x.mother (omega (arith, f.2)))
+      ∙ sym (ap (λ y. up_by root (marked base all) (mother_in y)) e)
+
+  up_past : (k : ℕ) → length xs ≤ k → slice_get xs k ≡ None → get_or all k false ≡ up_by root (marked base all) (mother_in (slice_get xs k))
+  up_past k h e = get_or_past all k false (omega (arith, all_length, h)) ∙ sym (ap (λ y. up_by root (marked base all) (mother_in y)) e)
 
   up : (c : ℕ) → marked base all c ≡ up_by root (marked base all) (mother_at base xs c)
   up c =
       elim (cases_lt base c) [
         | inl l ↦
             rw (lt-ltb base c l)
-            (elim (cases_lt (c - suc base) (length xs)) [
-              | inl h ↦
-                  all_at (c - suc base) h
-                  ∙ mark_up root base (take (c - suc base) all) (get_or xs (c - suc base) Empty) (marked base all)
-                  (λ m e. let b = backs base xs d m c l e in let f = fits base xs d m c b in marked_front base all (c - suc base) m (omega (arith, f.2)))
-              | inr h ↦
-                  get_or_past all (c - suc base) false (omega (arith, all_length, h))
-                  ∙ sym (ap (λ x. up_by root (marked base all) (mother_in x)) (get_or_past xs (c - suc base) Empty h))
+            (elim ((slice_get_cases xs (c - suc base)).1) [
+              | inl h ↦ up_at c h.0 l h.1 h.2 h.3
+              | inr h ↦ up_past (c - suc base) h.0 h.1
             ])
         | inr l ↦ rw (le-ltb base c l) refl
       ]
@@ -142,7 +141,7 @@ module _ (root base : ℕ) (xs : List Slot) (d : Dense base xs) where
   back m c h =
       elim (cases_lt base c) [
         | inl l ↦ backs base xs d m c l (rw (lt-ltb base c l) at h)
-        | inr l ↦ absurd (let q : None ≡ Some m = rw (le-ltb base c l) at h in let z : ◌≡◌ {A = ℕ} 0 1 = cc in omega arith)
+        | inr l ↦ (let q : None ≡ Some m = rw (le-ltb base c l) at h in cc)
       ]
 
 -- THE MARKS OF THE LINEAGE
@@ -193,12 +192,7 @@ cuttings_is v (suc n) os =
 from_world : (x : p.Thing) → number_of (p.from_of x) ≡ w.from_of Cpu fresh act (object_of x)
 unfolding w.from_of
 from_world p.gone = refl
-from_world (p.pool f n u) = refl
-from_world (p.table f ss) = refl
-from_world (p.port f q) = refl
-from_world (p.page f bs) = refl
-from_world (p.thread t) = refl
-from_world (p.line xs ys) = refl
+from_world _ = refl
 
 -- one object, by the pool that it was cut from
 made_one : (i n : ℕ) (f : Option ℕ) (m c : ℕ) (l : List w.Slot) → number_of f ≡ n → Made (pseudo i n ∷ l) m c → ((f ≡ Some m) × (i ≡ c)) ⊎ Made l m c
@@ -230,7 +224,7 @@ cut_fits i (x ∷ xs) m c h =
 
 cut_backs : (i : ℕ) (xs : List p.Thing) (m c : ℕ) → i ≤ c → p.from_of (get_or xs (c - i) p.gone) ≡ Some m → Made (cut_lineage i (map object_of xs)) m c
 unfolding cut_lineage
-cut_backs i [] m c l h = absurd (let z : ◌≡◌ {A = ℕ} 0 1 = cc in omega arith)
+cut_backs i [] m c l h = cc
 cut_backs i (x ∷ xs) m c l h =
     elim (cases_eq c i) [
       | inl e ↦
@@ -250,23 +244,16 @@ cut_up o ms x g (Some f) e h = ap (λ k. p.on_some k false (λ f. eqb f o || get
 
 module _ (o : ℕ) (xs : List p.Thing) (before : (c f : ℕ) → p.from_of (get_or xs c p.gone) ≡ Some f → f < c) where
   abbrev cuts : List Bool
-  cuts = cut_marks_from o [] xs
+  cuts = scan (cut_mark o) [] xs
 
   cuts_length : length cuts ≡ length xs
-  cuts_length = ap length (cuts_scan o [] xs) ∙ scan_length (cut_mark o) [] xs ∙ (let z : 0 + length xs ≡ length xs = omega arith in z)
-
-  cuts_at : (k : ℕ) → k < length xs → get_or cuts k false ≡ cut_mark o (take k cuts) (get_or xs k p.gone)
-  cuts_at k h =
-      let z : 0 + k ≡ k = omega arith in
-      let s = scan_at (cut_mark o) [] xs k p.gone h in
-      let t = subst (λ i. get_or (scan (cut_mark o) [] xs) i false ≡ cut_mark o (take i (scan (cut_mark o) [] xs)) (get_or xs k p.gone)) z s in
-      subst (λ ms. get_or ms k false ≡ cut_mark o (take k ms) (get_or xs k p.gone)) (sym (cuts_scan o [] xs)) t
+  cuts_length = scan_long (cut_mark o) xs
 
   cuts_up : (c : ℕ) → get_or cuts c false ≡ up_by o (λ k. get_or cuts k false) (p.from_of (get_or xs c p.gone))
   cuts_up c =
       elim (cases_lt c (length xs)) [
         | inl h ↦
-            cuts_at c h
+            scan_all (cut_mark o) xs c p.gone h
             ∙ cut_up o (take c cuts) (get_or xs c p.gone) (λ k. get_or cuts k false) (p.from_of (get_or xs c p.gone)) refl (λ m e. get_or-take c cuts m false (before c m e))
         | inr h ↦
             get_or_past cuts c false (omega (arith, cuts_length, h))
@@ -287,11 +274,11 @@ module _ (o : ℕ) (xs : List p.Thing) (before : (c f : ℕ) → p.from_of (get_
 
 -- THE MARKS OF THE OBJECTS
 pub cuts_is : (v : p.Whole) → Sound v → (o c : ℕ) →
-    get_or (cut_marks_from o [] v.things) c false ≡ w.among c (w.cuttings Cpu fresh act (world_of v) (length (world_of v).objects) (o ∷ []))
+    get_or (scan (cut_mark o) [] v.things) c false ≡ w.among c (w.cuttings Cpu fresh act (world_of v) (length (world_of v).objects) (o ∷ []))
 unfolding p.object cut_world
 cuts_is v s o c =
     let xs = v.things in
-    test_is (length xs) (cut_lineage 0 (map object_of xs)) (cut_orderly o xs (λ c f. s.after c f)) (λ c. p.from_of (get_or xs c p.gone)) o (λ k. get_or (cut_marks_from o [] xs) k false)
+    test_is (length xs) (cut_lineage 0 (map object_of xs)) (cut_orderly o xs (λ c f. s.after c f)) (λ c. p.from_of (get_or xs c p.gone)) o (λ k. get_or (scan (cut_mark o) [] xs) k false)
     (cut_fit o xs (λ c f. s.after c f)) (cut_back o xs (λ c f. s.after c f)) (cuts_up o xs (λ c f. s.after c f)) Cpu fresh act (cut_world (world_of v)) refl c
     ∙ sym (ap (w.among c) (cuttings_is (world_of v) (length xs) (o ∷ [])))
     ∙ ap (λ n. w.among c (w.cuttings Cpu fresh act (world_of v) n (o ∷ []))) (sym (length-map xs object_of))

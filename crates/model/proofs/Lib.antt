@@ -1,5 +1,4 @@
 pub mod Lists
-pub mod Marking
 pub mod Agree
 pub mod Same
 pub mod Slots

@@ -1,15 +1,28 @@
 -- Reads and writes of a list under a map.
-use Rattle.std.proofs.Common.{◌≡◌, ℕ, zero, suc, ◌+◌, ◌<◌, ◌≤◌, List, [], ◌∷◌, ◌++◌, map, reverse, length, get_or, take, drop, set, IfNone, Some, None, Option, sym, refl, ap, ◌∙◌, add-one, arith}
+use Rattle.std.proofs.Common.{◌≡◌, ℕ, zero, suc, ◌+◌, ◌<◌, ◌≤◌, ◌⊎◌, List, [], ◌∷◌, ◌++◌, map, reverse, length, get_or, take, drop, set, IfNone, Some, None, Option, sym, refl, ap, ◌∙◌, inl, inr, add-one, arith, get_or-set_other, get_or-set_same}
 use Rattle.std.specs.List.{ItemBy}
 use Rattle.std.specs.Option.{option_map}
 use Rattle.model.specs.Sweeps.{at_each}
-use Rattle.std.proofs.lemmas.List.{get_or-map, get_or_past, length-map, map_push, reverse-append, set_past, take_all, drop_all, append-nil}
+use Rattle.std.proofs.lemmas.List.{get_or-map, get_or_past, length-map, map_push, reverse-append, set_past}
+use Rattle.std.proofs.lemmas.Bool.{cases_lt, cases_eq}
 
 pub read_map : {X Y : Type 0} (f : X → Y) (xs : List X) (i : ℕ) (x : X) (e : Y) → i < length xs → x ≡ get_or xs i x → f x ≡ get_or (map f xs) i e
 read_map f xs i x e h r = ap f r ∙ sym (get_or-map f xs i x e h)
 
 pub past_map : {X Y : Type 0} (f : X → Y) (xs : List X) (i : ℕ) (e : Y) → length xs ≤ i → e ≡ get_or (map f xs) i e
 past_map f xs i e h = sym (get_or_past (map f xs) i e (rw length-map h))
+
+-- an element after one was written
+pub wrote : {X : Type 0} (xs : List X) (i k : ℕ) (x d : X) → (get_or (set xs i x) k d ≡ get_or xs k d) ⊎ ((k ≡ i) × (get_or (set xs i x) k d ≡ x))
+wrote xs i k x d =
+    elim (cases_eq k i) [
+      | inl e ↦
+          elim (cases_lt i (length xs)) [
+            | inl l ↦ inr (e, rw e (get_or-set_same xs i x d l))
+            | inr l ↦ inl (ap (λ ys. get_or ys k d) (set_past xs i x l))
+          ]
+      | inr n ↦ inl (get_or-set_other xs i k x d n)
+    ]
 
 pub push_reverse : {X Y : Type 0} (f : X → Y) (xs : List X) (x : X) → f x ∷ reverse (map f xs) ≡ reverse (map f (xs ++ x ∷ []))
 push_reverse f xs x = sym (ap reverse (map_push f xs x) ∙ reverse-append (map f xs) (f x ∷ []))
@@ -30,10 +43,6 @@ pub past_item : {B X Y Z : Type 0} (now : B → X) (f : X → Y) (xs : List X) (
     IfNone r ((y : Y) → g (map f xs) ≡ g (set (map f xs) i y))
 past_item now f xs i None h g = λ y. ap g (sym (past_set f xs i y h.3))
 past_item now f xs i (Some x) h g = tt
-
--- the end of a loop that writes f x over each x
-pub all_over : {X : Type 0} (f : X → X) (xs : List X) (i : ℕ) → length xs ≤ i → map f (take i xs) ++ drop i xs ≡ map f xs
-all_over f xs i h = rw (take_all i xs h, drop_all i xs h) (append-nil (map f xs))
 
 -- a loop that writes f i x over the element x at place i
 over_at : {X : Type 0} (f : ℕ → X → X) (n i : ℕ) (xs : List X) (d : X) → i < length xs →
@@ -59,6 +68,3 @@ each_more f xs ys i x h e r =
     let z : 0 + i ≡ i = omega arith in
     ap (λ v. set v i (f i x)) e ∙ ap (λ v. set (at_each f 0 (take i xs) ++ drop i xs) i (f i v)) q
     ∙ ap (λ k. set (at_each f 0 (take i xs) ++ drop i xs) i (f k (get_or xs i x))) (sym z) ∙ rw add-one (over_at f 0 i xs x h)
-
-pub each_all : {X : Type 0} (f : ℕ → X → X) (xs : List X) (i : ℕ) → length xs ≤ i → at_each f 0 (take i xs) ++ drop i xs ≡ at_each f 0 xs
-each_all f xs i h = rw (take_all i xs h, drop_all i xs h) (append-nil (at_each f 0 xs))

@@ -1,5 +1,6 @@
 -- Cut: the world in the code's parts does what the abstract world does.
 use Rattle.std.proofs.Common.{◌≡◌, ℕ, zero, suc, ◌+◌, ◌-◌, ◌%◌, ◌<◌, Bool, true, false, cond, not, ◌&&◌, ◌||◌, eqb, ltb, leb, [], ◌∷◌, ◌++◌, map, length, set, replicate, Some, None, Option, sym, refl, ap, ◌∙◌, inl, inr, arith}
+use Rattle.std.specs.Option.{is_none}
 use lib.ListN.{get_or-append}
 use Rattle.std.proofs.lemmas.List.{map-set, map_push, length-map, get_or_past}
 use Rattle.std.proofs.lemmas.Bool.{cases_lt}
@@ -12,14 +13,13 @@ use Rattle.rights.specs.World as w
 use Rattle.rv32.specs.declared.registers.Cpu.{Cpu}
 use Rattle.rv32.specs.Registers.{fresh}
 use Rattle.rv32.specs.Execute.{act}
-use Rattle.model.specs.declared.objects.Slot.{Slot}
-use Rattle.model.specs.declared.objects.Slot.TheVariants.{Empty, Full}
+use Rattle.model.specs.declared.objects.Capability.{Capability}
 use Rattle.model.specs.Plain as p
 use Rattle.model.specs.Calls as calls
 use Rattle.model.specs.Cuts as cuts
-use Rattle.model.specs.Meaning.{sizes, slot_of, number_of, object_of, world_of, went_of}
+use Rattle.model.specs.Meaning.{cap_of, sizes, slot_of, number_of, object_of, world_of, went_of}
 use Rattle.model.proofs.Agree.{with_slot, goes, less_one, at_world, slot_world, free_world, Tabled, with_world, full_has}
-use Rattle.model.proofs.Same.{does, refused}
+use Rattle.model.proofs.Same.{does, refused, only_and}
 use Rattle.model.proofs.Slots.{after_put, by_right, born_world, born_tabled, cond_pick}
 
 -- sizes
@@ -58,7 +58,7 @@ unfolding w.made
 made_is o (new.Pool n) = refl
 made_is o (new.Table n) = ap (w.table (suc o)) (empties n)
   where
-    empties : (n : ℕ) → map slot_of (replicate n Empty) ≡ replicate n w.empty
+    empties : (n : ℕ) → map slot_of (replicate n None) ≡ replicate n w.empty
     empties zero = refl
     empties (suc n) = ap (λ xs. w.empty ∷ xs) (empties n)
 made_is o new.Port = refl
@@ -70,7 +70,7 @@ unfolding p.object
 there v q (t, h) =
     elim (cases_lt q (length v.things)) [
       | inl l ↦ l
-      | inr l ↦ absurd (let e : p.table_of p.gone ≡ Some t = ap p.table_of (sym (get_or_past v.things q p.gone l)) ∙ h in let z : ◌≡◌ {A = ℕ} 0 1 = cc in omega arith)
+      | inr l ↦ (let e : p.table_of p.gone ≡ Some t = ap p.table_of (sym (get_or_past v.things q p.gone l)) ∙ h in cc)
     ]
 
 grown_tabled : (v : p.Whole) (x : p.Thing) (q : ℕ) → Tabled v q → Tabled (calls.grown v x) q
@@ -81,7 +81,7 @@ pool_tabled : (v : p.Whole) (o q a : ℕ) (f : Option ℕ) (n u : ℕ) → p.poo
 pool_tabled v o q a f n u e (t, h) =
     elim (after_put v o q (p.pool f n a)) [
       | inl s ↦ (t, ap p.table_of s ∙ h)
-      | inr s ↦ absurd (let b : None ≡ Some t = ap p.table_of (e ∙ ap (p.object v) (sym s.0)) ∙ h in let z : ◌≡◌ {A = ℕ} 0 1 = cc in omega arith)
+      | inr s ↦ (let b : None ≡ Some t = ap p.table_of (e ∙ ap (p.object v) (sym s.0)) ∙ h in cc)
     ]
 
 grown_world : (v : p.Whole) (o : ℕ) (y x : p.Thing) →
@@ -92,7 +92,7 @@ grown_world v o y x =
     ap (λ xs. record { objects = xs; births = v.births; lineage = (world_of v).lineage })
     (map_push object_of (set v.things o y) x ∙ ap (λ xs. xs ++ object_of x ∷ []) (map-set object_of v.things o y))
 
-newborn_is : (v : p.Whole) (m : ℕ) → slot_of (calls.newborn v m) ≡ w.cap (length (world_of v).objects) (w.all_rights Cpu fresh act) 0 (suc v.births) m
+newborn_is : (v : p.Whole) (m : ℕ) → cap_of (calls.newborn v m) ≡ w.cap (length (world_of v).objects) (w.all_rights Cpu fresh act) 0 (suc v.births) m
 unfolding w.all_rights
 newborn_is v m = ap (λ n. w.cap n (rights_of all_three) 0 (suc v.births) m) (sym (length-map v.things object_of))
 
@@ -107,15 +107,15 @@ cut_world v q o m k d f n a =
     q d (w.cap (length v.objects) (w.all_rights Cpu fresh act) 0 (suc v.births) m)
 
 cut_done_is : (v : p.Whole) (q o m : ℕ) (k : NewObject) (d : ℕ) (f : Option ℕ) (n u a : ℕ) → p.pool f n u ≡ p.object v o → Tabled v q →
-    world_of (p.with_slot (calls.born (calls.grown (p.with_object v o (p.pool f n a)) (calls.new_thing o k)) (calls.newborn v m)) q d (calls.newborn v m))
+    world_of (p.with_slot (calls.born (calls.grown (p.with_object v o (p.pool f n a)) (calls.new_thing o k)) (calls.newborn v m)) q d (Some (calls.newborn v m)))
     ≡ cut_world (world_of v) q o m (kind_of k) d (number_of f) n a
 cut_done_is v q o m k d f n u a e t =
     let x = calls.newborn v m in
     let u₁ = calls.grown (p.with_object v o (p.pool f n a)) (calls.new_thing o k) in
     let t₁ = grown_tabled (p.with_object v o (p.pool f n a)) (calls.new_thing o k) q (pool_tabled v o q a f n u e t) in
-    with_world (calls.born u₁ x) q d x (born_tabled u₁ x q t₁)
-    ∙ ap (λ y. with_slot y q d (slot_of x)) (born_world u₁ x ∙ ap (λ y. record { objects = y.objects; births = suc y.births; lineage = slot_of x ∷ y.lineage }) (grown_world v o (p.pool f n a) (calls.new_thing o k)))
-    ∙ ap (λ y. with_slot (record { objects = set (world_of v).objects o (w.pool (number_of f) n a) ++ y ∷ []; births = suc v.births; lineage = slot_of x ∷ (world_of v).lineage }) q d (slot_of x)) (made_is o k)
+    with_world (calls.born u₁ x) q d (Some x) (born_tabled u₁ x q t₁)
+    ∙ ap (λ y. with_slot y q d (cap_of x)) (born_world u₁ x ∙ ap (λ y. record { objects = y.objects; births = suc y.births; lineage = cap_of x ∷ y.lineage }) (grown_world v o (p.pool f n a) (calls.new_thing o k)))
+    ∙ ap (λ y. with_slot (record { objects = set (world_of v).objects o (w.pool (number_of f) n a) ++ y ∷ []; births = suc v.births; lineage = cap_of x ∷ (world_of v).lineage }) q d (cap_of x)) (made_is o k)
     ∙ ap (λ y. with_slot (record { objects = set (world_of v).objects o (w.pool (number_of f) n a) ++ w.made Cpu fresh act sizes (suc o) (kind_of k) ∷ []; births = suc v.births; lineage = y ∷ (world_of v).lineage }) q d y) (newborn_is v m)
 
 -- a cut of what fits, and of what does not
@@ -124,34 +124,30 @@ room_by : (v : p.Whole) (q o m : ℕ) (k : NewObject) (d : ℕ) (f : Option ℕ)
     ≡ w.pick (not b) (refused (world_of v)) (goes (cut_world (world_of v) q o m (kind_of k) d (number_of f) n (calls.used_after k u)) (0 ∷ []))
 room_by v q o m k d f n u true e t =
     ap (λ y. goes y (0 ∷ []))
-    (ap (λ x. world_of (p.with_slot (calls.born (calls.grown (p.with_object v o (cuts.with_used (calls.used_after k u) x)) (calls.new_thing o k)) (calls.newborn v m)) q d (calls.newborn v m))) (sym e)
+    (ap (λ x. world_of (p.with_slot (calls.born (calls.grown (p.with_object v o (cuts.with_used (calls.used_after k u) x)) (calls.new_thing o k)) (calls.newborn v m)) q d (Some (calls.newborn v m)))) (sym e)
     ∙ cut_done_is v q o m k d f n u (calls.used_after k u) e t)
 room_by v q o m k d f n u false e t = refl
 
 cut_at_is : (v : p.Whole) (q o : ℕ) (s : w.Slot) (k : NewObject) (d : ℕ) (x : p.Thing) → x ≡ p.object v o → Tabled v q →
-    went_of (cuts.cut_sized v q o (w.slot_birth s) k d (cuts.pool_of x)) ≡ w.cutting Cpu fresh act sizes (world_of v) q o s (kind_of k) d (object_of x)
+    went_of (cuts.cut_by v q o (w.slot_birth s) k d (cuts.room_in k x)) ≡ w.cutting Cpu fresh act sizes (world_of v) q o s (kind_of k) d (object_of x)
 unfolding w.cutting w.refuse
-cut_at_is v q o s k d p.gone e t = refl
 cut_at_is v q o s k d (p.pool f n u) e t =
     room_by v q o (w.slot_birth s) k d f n u (calls.right k && leb (calls.used_after k u) n) e t
     ∙ ap (λ b. w.pick b (refused (world_of v)) (goes (cut_world (world_of v) q o (w.slot_birth s) (kind_of k) d (number_of f) n (calls.used_after k u)) (0 ∷ []))) (refused_is k (calls.used_after k u) n)
     ∙ ap (λ a. w.pick (ltb n a || (eqb (w.cost sizes (kind_of k)) 0 || w.too_many (kind_of k))) (refused (world_of v)) (goes (cut_world (world_of v) q o (w.slot_birth s) (kind_of k) d (number_of f) n a) (0 ∷ []))) (used_is k u)
-cut_at_is v q o s k d (p.table f ss) e t = refl
-cut_at_is v q o s k d (p.port f r) e t = refl
-cut_at_is v q o s k d (p.page f bs) e t = refl
-cut_at_is v q o s k d (p.thread r) e t = refl
-cut_at_is v q o s k d (p.line xs ys) e t = refl
+cut_at_is v q o s k d _ e t = refl
 
-cut_with : (v : p.Whole) (q s : ℕ) (k : NewObject) (d : ℕ) (x : Slot) → x ≡ p.slot v q s →
-    went_of (p.on_full x (p.refuse v) (λ c. cond (calls.writes c && p.free v q d) (cuts.cut_at v q c.object c.birth k d) (p.refuse v)))
+cut_with : (v : p.Whole) (q s : ℕ) (k : NewObject) (d : ℕ) (x : Option Capability) → x ≡ p.slot v q s →
+    went_of (p.on_some x (p.refuse v) (λ c. cond (calls.writes c && p.free v q d) (cuts.cut_at v q c.object c.birth k d) (p.refuse v)))
     ≡ does (world_of v) q (w.cut s (kind_of k) d)
 unfolding w.does w.is_empty w.slot_rights w.slot_object w.slot_birth w.refuse
-cut_with v q s k d Empty e = rw (sym (slot_world v q s), sym e) refl
-cut_with v q s k d (Full c) e =
+cut_with v q s k d None e = rw (sym (slot_world v q s), sym e) refl
+cut_with v q s k d (Some c) e =
     rw (sym (slot_world v q s), sym e, less_one c.object)
     (by_right (calls.writes c) (p.free v q d) _ _ _ _ _ (free_world v q d)
-    (λ h. cut_at_is v q c.object (slot_of (Full c)) k d (p.object v c.object) refl (full_has v q s (ap p.is_empty (sym e)))
-    ∙ ap (w.cutting Cpu fresh act sizes (world_of v) q c.object (slot_of (Full c)) (kind_of k) d) (at_world v c.object)) refl)
+    (λ h. cut_at_is v q c.object (slot_of (Some c)) k d (p.object v c.object) refl (full_has v q s (ap is_none (sym e)))
+    ∙ ap (w.cutting Cpu fresh act sizes (world_of v) q c.object (slot_of (Some c)) (kind_of k) d) (at_world v c.object)) refl)
 
 pub cut_same : (v : p.Whole) (q s : ℕ) (k : NewObject) (d : ℕ) → went_of (cuts.cut v q s k d) ≡ does (world_of v) q (w.cut s (kind_of k) d)
-cut_same v q s k d = cut_with v q s k d (p.slot v q s) refl
+cut_same v q s k d =
+    ap went_of (only_and calls.writes (λ c. p.free v q d) (p.slot v q s) (p.refuse v) (λ c. cuts.cut_at v q c.object c.birth k d)) ∙ cut_with v q s k d (p.slot v q s) refl

@@ -1,23 +1,23 @@
 -- Passes that add one mark for each element, by the marks so far.
-use Rattle.std.proofs.Common.{◌≡◌, ℕ, zero, suc, ◌+◌, ◌<◌, ◌≤◌, Bool, false, List, [], ◌∷◌, ◌++◌, length, get_or, take, sym, refl, ap, ◌∙◌, subst, arith, length-append}
-use Rattle.std.proofs.lemmas.List.{take_all, get_or-take}
-use Rattle.model.specs.declared.objects.Slot.{Slot}
-use Rattle.model.specs.Plain.{Thing}
-use Rattle.model.specs.Sweeps.{mark_of, marks_from, cut_mark, cut_marks_from}
+use Rattle.std.proofs.Common.{◌≡◌, ℕ, zero, suc, ◌+◌, ◌<◌, ◌≤◌, Bool, false, List, [], ◌∷◌, ◌++◌, map, length, get_or, take, drop, sym, refl, ap, ◌∙◌, subst, arith, length-append, add-one, drop-cons}
+use Rattle.std.proofs.lemmas.List.{take_all, take-take, take_at, get_or_at, get_or-take, drop_all}
+use Rattle.model.specs.Sweeps.{scan}
 
-unfoldable pub scan : {X : Type 0} → (List Bool → X → Bool) → List Bool → List X → List Bool
-scan f ms [] = ms
-scan f ms (x ∷ xs) = scan f (ms ++ f ms x ∷ []) xs
+-- a scan under a map
+pub scan_map : {X Y : Type 0} (f : List Bool → Y → Bool) (g : X → Y) (ms : List Bool) (xs : List X) → scan (λ ns x. f ns (g x)) ms xs ≡ scan f ms (map g xs)
+unfolding scan
+scan_map f g ms [] = refl
+scan_map f g ms (x ∷ xs) = scan_map f g (ms ++ f ms (g x) ∷ []) xs
 
-pub marks_scan : (root base : ℕ) (ms : List Bool) (xs : List Slot) → marks_from root base ms xs ≡ scan (mark_of root base) ms xs
-unfolding marks_from scan
-marks_scan root base ms [] = refl
-marks_scan root base ms (x ∷ xs) = marks_scan root base (ms ++ mark_of root base ms x ∷ []) xs
+-- one turn of the loop that scans, and its end
+pub scan_step : {X : Type 0} (f : List Bool → X → Bool) (ms new : List Bool) (xs : List X) (i : ℕ) (x : X) → i < length xs → new ≡ ms ++ f ms (get_or xs i x) ∷ [] →
+    scan f new (drop (i + 1) xs) ≡ scan f ms (drop i xs)
+unfolding scan
+scan_step f ms new xs i x l e = rw (drop-cons xs i x, add-one) (ap (λ ns. scan f ns (drop (suc i) xs)) e)
 
-pub cuts_scan : (o : ℕ) (ms : List Bool) (xs : List Thing) → cut_marks_from o ms xs ≡ scan (cut_mark o) ms xs
-unfolding cut_marks_from scan
-cuts_scan o ms [] = refl
-cuts_scan o ms (x ∷ xs) = cuts_scan o (ms ++ cut_mark o ms x ∷ []) xs
+pub scan_end : {X : Type 0} (f : List Bool → X → Bool) (ms : List Bool) (xs : List X) (i : ℕ) → length xs ≤ i → ms ≡ scan f ms (drop i xs)
+unfolding scan
+scan_end f ms xs i l = rw (drop_all i xs l) refl
 
 module _ {X : Type 0} (f : List Bool → X → Bool) where
   one_longer : (ms : List Bool) (b : Bool) → length (ms ++ b ∷ []) ≡ suc (length ms)
@@ -36,18 +36,7 @@ module _ {X : Type 0} (f : List Bool → X → Bool) where
       let new = ms ++ f ms x ∷ [] in
       let e = one_longer ms (f ms x) in
       let t = scan_front new xs in
-      let l : length new ≤ length (scan f new xs) = let h = scan_length new xs in omega (arith, h) in
-      sym (shorter (length ms) (length new) (scan f new xs) (omega (arith, e))) ∙ ap (take (length ms)) t ∙ take_front ms (f ms x ∷ [])
-    where
-      shorter : {Y : Type 0} (a b : ℕ) (ys : List Y) → a ≤ b → take a (take b ys) ≡ take a ys
-      shorter zero b ys l = refl
-      shorter (suc a) zero ys l = absurd (omega arith)
-      shorter (suc a) (suc b) [] l = refl
-      shorter (suc a) (suc b) (y ∷ ys) l = ap (λ zs. y ∷ zs) (shorter a b ys (omega arith))
-
-      take_front : {Y : Type 0} (ys zs : List Y) → take (length ys) (ys ++ zs) ≡ ys
-      take_front [] zs = refl
-      take_front (y ∷ ys) zs = ap (λ us. y ∷ us) (take_front ys zs)
+      sym (take-take (length ms) (length new) (scan f new xs) (omega (arith, e))) ∙ ap (take (length ms)) t ∙ take_at ms (f ms x ∷ []) (length ms) refl
 
   -- each mark is the test of its element by the marks before it
   pub scan_at : (ms : List Bool) (xs : List X) (k : ℕ) (d : X) → k < length xs →
@@ -60,14 +49,19 @@ module _ {X : Type 0} (f : List Bool → X → Bool) where
       let t = scan_front new xs in
       let z : length ms + 0 ≡ length ms = omega arith in
       rw z (
-      sym (get_or-take (length new) (scan f new xs) (length ms) false (omega (arith, e))) ∙ ap (λ ys. get_or ys (length ms) false) t ∙ last ms (f ms x)
+      sym (get_or-take (length new) (scan f new xs) (length ms) false (omega (arith, e))) ∙ ap (λ ys. get_or ys (length ms) false) t ∙ get_or_at ms (f ms x) [] false (length ms) refl
       ∙ sym (ap (λ ys. f ys x) (scan_front ms (x ∷ xs))))
-    where
-      last : (ys : List Bool) (b : Bool) → get_or (ys ++ b ∷ []) (length ys) false ≡ b
-      last [] b = refl
-      last (y ∷ ys) b = last ys b
   scan_at ms (x ∷ xs) (suc k) d h =
       let new = ms ++ f ms x ∷ [] in
       let e = one_longer ms (f ms x) in
       let z : length new + k ≡ length ms + suc k = omega (arith, e) in
       subst (λ i. get_or (scan f new xs) i false ≡ f (take i (scan f new xs)) (get_or xs k d)) z (scan_at new xs k d (omega arith))
+
+  -- the same of a scan from no marks on
+  pub scan_long : (xs : List X) → length (scan f [] xs) ≡ length xs
+  scan_long xs = scan_length [] xs ∙ (let z : 0 + length xs ≡ length xs = omega arith in z)
+
+  pub scan_all : (xs : List X) (k : ℕ) (d : X) → k < length xs → get_or (scan f [] xs) k false ≡ f (take k (scan f [] xs)) (get_or xs k d)
+  scan_all xs k d h =
+      let z : 0 + k ≡ k = omega arith in
+      subst (λ i. get_or (scan f [] xs) i false ≡ f (take i (scan f [] xs)) (get_or xs k d)) z (scan_at [] xs k d h)

@@ -1,29 +1,24 @@
 -- One step of a thread: the world in the code's parts does what the abstract world does.
-use Rattle.std.proofs.Common.{◌≡◌, ℕ, zero, suc, ◌+◌, ◌-◌, ◌/◌, ◌%◌, ◌<◌, ◌≤◌, Bool, true, false, cond, not, ◌&&◌, eqb, List, [], ◌∷◌, map, length, get_or, set, Some, None, Option, sym, refl, ap, ◌∙◌, inl, inr, arith}
-use Rattle.std.proofs.lemmas.List.{get_or_past, length-set}
-use Rattle.std.proofs.lemmas.Bool.{cases_lt, lt-ltb, le-ltb, le-leb}
+use Rattle.std.proofs.Common.{◌≡◌, ℕ, zero, suc, ◌+◌, ◌-◌, ◌/◌, ◌%◌, ◌≤◌, Bool, true, false, cond, not, ◌&&◌, eqb, List, [], ◌∷◌, ◌++◌, map, length, get_or, drop, Some, None, Option, sym, refl, ap, ◌∙◌, arith}
+use Rattle.std.proofs.lemmas.Bool.{le-leb}
 use Rattle.rights.specs.Vocabulary.{words}
 use Rattle.rights.specs.World as w
 use Rattle.rv32.specs.declared.registers.Cpu.{Cpu}
 use Rattle.rv32.specs.Registers.{fresh, returned}
 use Rattle.rv32.specs.Execute.{act}
+use Rattle.model.specs.declared.objects.Mapping.{Mapping}
 use Rattle.model.specs.declared.objects.State.{State}
 use Rattle.model.specs.declared.objects.State.TheVariants.{Stopped, Ready, Waits}
 use Rattle.model.specs.Plain as p
 use Rattle.model.specs.Turns as turns
-use Rattle.model.specs.Meaning.{sizes, number_of, state_of, core_of, object_of, world_of, went_of}
+use Rattle.model.specs.Meaning.{page_of, sizes, number_of, state_of, core_of, object_of, world_of, went_of}
 use Rattle.model.proofs.Agree.{object, with_object, less_one, not_zero, read_any, at_world, put_world}
 
 -- a thread in another state
 state_world : (s : State) (c : Cpu) (x : p.Thing) → object_of (turns.set_state s c x) ≡ w.set_state Cpu fresh act (object_of x) (state_of s c) (core_of s c)
 unfolding w.set_state
 state_world s c p.gone = refl
-state_world s c (p.pool f n u) = refl
-state_world s c (p.table f ss) = refl
-state_world s c (p.port f q) = refl
-state_world s c (p.page f bs) = refl
-state_world s c (p.thread t) = refl
-state_world s c (p.line xs ys) = refl
+state_world s c _ = refl
 
 pub thread_world : (v : p.Whole) (q : ℕ) (s : State) (c : Cpu) →
     world_of (turns.with_thread v q s c) ≡ with_object (world_of v) q (w.set_state Cpu fresh act (object (world_of v) q) (state_of s c) (core_of s c))
@@ -39,47 +34,30 @@ went_world v q c (p.wait u o) = thread_world u q (Waits o) c
 -- what a thread sees
 byte_world : (x : p.Thing) (k : ℕ) → turns.byte_in x k ≡ get_or (w.bytes_of Cpu fresh act (object_of x)) k 0
 unfolding w.bytes_of
-byte_world p.gone k = refl
-byte_world (p.pool f n u) k = refl
-byte_world (p.table f ss) k = refl
-byte_world (p.port f q) k = refl
-byte_world (p.page f bs) k =
-    elim (cases_lt k (length bs)) [
-      | inl h ↦ rw (lt-ltb k (length bs) h) refl
-      | inr h ↦ rw (le-ltb k (length bs) h) (sym (get_or_past bs k 0 h))
-    ]
-byte_world (p.thread t) k = refl
-byte_world (p.line xs ys) k = refl
+byte_world (p.page f bs) k = refl
+byte_world _ k = refl
 
 seen_by : (v : p.Whole) (m : Option ℕ) (n k : ℕ) → number_of m ≡ n →
     p.on_some m 256 (λ o. turns.byte_in (p.object v o) k) ≡ w.pick (eqb n 0) 256 (get_or (w.bytes_of Cpu fresh act (object (world_of v) (n - 1))) k 0)
 seen_by v None n k e = rw (sym e) refl
 seen_by v (Some o) n k e = rw (sym e, not_zero o, less_one o) (byte_world (p.object v o) k ∙ ap (λ x. get_or (w.bytes_of Cpu fresh act x) k 0) (at_world v o))
 
-pub seen_world : (v : p.Whole) (ps : List (Option ℕ)) (a : ℕ) → turns.seen v ps a ≡ w.seen Cpu fresh act sizes (world_of v) (map number_of ps) a
+pub seen_world : (v : p.Whole) (ps : List Mapping) (a : ℕ) → turns.seen v ps a ≡ w.seen Cpu fresh act sizes (world_of v) (map page_of ps) a
 unfolding w.seen
-seen_world v ps a = seen_by v (get_or ps (a / 4096) None) (get_or (map number_of ps) (a / 4096) 0) (a % 4096) (read_any number_of ps (a / 4096) None)
+seen_world v ps a = seen_by v (p.page_at ps (a / 4096)) (get_or (map page_of ps) (a / 4096) 0) (a % 4096) (read_any page_of ps (a / 4096) p.unmapped)
 
--- STORES. Bytes put one by one are bytes written over
-over_step : (old bs : List ℕ) (k b : ℕ) → k < length old → w.over (set old k b) (k + 1) bs ≡ w.over old k (b ∷ bs)
-unfolding w.over w.drop
-over_step [] bs k b h = absurd (omega arith)
-over_step (x ∷ xs) bs zero b h = refl
-over_step (x ∷ xs) bs (suc k) b h =
-    let e : suc k + 1 ≡ suc (k + 1) = omega arith in
-    rw e (ap (λ ys. x ∷ ys) (over_step xs bs k b (omega arith)))
+-- STORES. Bytes written over others
+drops_are : {A : Type 0} (n : ℕ) (xs : List A) → drop n xs ≡ w.drop n xs
+unfolding w.drop
+drops_are zero xs = refl
+drops_are (suc n) [] = refl
+drops_are (suc n) (x ∷ xs) = drops_are n xs
 
-over_none : (old : List ℕ) (k : ℕ) → k ≤ length old → w.over old k [] ≡ old
-unfolding w.over w.drop
-over_none old zero h = refl
-over_none [] (suc k) h = absurd (omega arith)
-over_none (x ∷ xs) (suc k) h = ap (λ ys. x ∷ ys) (over_none xs k (omega arith))
-
-over_put : (bs old : List ℕ) (k : ℕ) → k + length bs ≤ length old → turns.put_bytes k bs old ≡ w.over old k bs
-over_put [] old k h = sym (over_none old k (omega arith))
-over_put (b ∷ bs) old k h =
-    let l : k + 1 + length bs ≤ length (set old k b) = rw (length-set old k b) (omega arith) in
-    over_put bs (set old k b) (k + 1) l ∙ over_step old bs k b (omega arith)
+over_is : (bs old : List ℕ) (k : ℕ) → k ≤ length old → turns.over k bs old ≡ w.over old k bs
+unfolding w.over
+over_is bs old zero h = let e : 0 + length bs ≡ length bs = omega arith in rw e (ap (λ ys. bs ++ ys) (drops_are (length bs) old))
+over_is bs [] (suc k) h = absurd (omega arith)
+over_is bs (x ∷ xs) (suc k) h = let e : suc k + length bs ≡ suc (k + length bs) = omega arith in rw e (ap (λ ys. x ∷ ys) (over_is bs xs k (omega arith)))
 
 -- a page of the abstract world with bytes written over
 abbrev stored_world : w.World Cpu → ℕ → ℕ → List ℕ → w.World Cpu
@@ -91,7 +69,7 @@ unfolding w.bytes_of w.from_page
 stored_is v o k bs f old e h =
     put_world v o _ ∙ ap (λ x. with_object (world_of v) o (object_of (turns.stored k bs x))) e
     ∙ rw (le-leb (k + length bs) (length old) h)
-    (ap (λ ys. with_object (world_of v) o (w.page (number_of f) ys)) (over_put bs old k h)
+    (ap (λ ys. with_object (world_of v) o (w.page (number_of f) ys)) (over_is bs old k (omega arith))
     ∙ ap (λ x. with_object (world_of v) o (w.page (w.from_page Cpu fresh act x) (w.over (w.bytes_of Cpu fresh act x) k bs))) (sym (ap object_of e) ∙ at_world v o))
 
 -- a thread that stops

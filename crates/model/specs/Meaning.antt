@@ -1,12 +1,12 @@
 -- What the world in the code's own parts means: the abstract world at the core RV32I. Assumes nothing: these are definitions.
-use Rattle.std.specs.Prelude.{ℕ, suc, map, reverse, Some, None, Option, nat_le}
+use Rattle.std.specs.Prelude.{ℕ, suc, Bool, map, reverse, Some, None, Option, nat_le}
 use Rattle.rights.specs.Vocabulary.{four, rights_of, words}
 use Rattle.rights.specs.World as w
 use Rattle.rv32.specs.declared.registers.Cpu.{Cpu}
 use Rattle.rv32.specs.Registers.{fresh, returned}
 use Rattle.rv32.specs.Execute.{act}
-use Rattle.model.specs.declared.objects.Slot.{Slot}
-use Rattle.model.specs.declared.objects.Slot.TheVariants.{Empty, Full}
+use Rattle.model.specs.declared.objects.Capability.{Capability}
+use Rattle.model.specs.declared.objects.Mapping.{Mapping}
 use Rattle.model.specs.declared.objects.State.{State}
 use Rattle.model.specs.declared.objects.State.TheVariants.{Stopped, Ready, Waits}
 use Rattle.model.specs.declared.objects.Wait.{Wait}
@@ -23,9 +23,19 @@ abbrev pub number_of : Option ℕ → ℕ
 number_of None = 0
 number_of (Some n) = suc n
 
-abbrev pub slot_of : Slot → w.Slot
-slot_of Empty = w.empty
-slot_of (Full c) = w.cap c.object (rights_of c.rights) c.badge c.birth c.mother
+-- a page of a space: the world has one list of the pages, and one of whether they may be written
+abbrev pub page_of : Mapping → ℕ
+page_of m = number_of m.page
+
+abbrev pub may_write : Mapping → Bool
+may_write m = m.writes
+
+abbrev pub cap_of : Capability → w.Slot
+cap_of c = w.cap c.object (rights_of c.rights) c.badge c.birth c.mother
+
+abbrev pub slot_of : Option Capability → w.Slot
+slot_of None = w.empty
+slot_of (Some c) = cap_of c
 
 -- a thread that waits goes on from the registers that it kept
 abbrev pub state_of : State → Cpu → w.State Cpu
@@ -34,12 +44,11 @@ state_of Ready c = w.ready
 state_of (Waits o) c = w.waits o (returned c)
 
 abbrev pub core_of : State → Cpu → Cpu
-core_of Stopped c = c
-core_of Ready c = c
 core_of (Waits o) c = fresh 0
+core_of _ c = c
 
 abbrev pub wait_of : Wait → w.Wait
-wait_of (Sender t b ws h s) = w.sender t b (four ws) h (nat_le s 4095) s
+wait_of (Sender x) = w.sender x.thread x.badge (four x.words) x.hands_on (nat_le x.slot 4095) x.slot
 wait_of (Receiver t s) = w.receiver t s
 
 abbrev pub object_of : p.Thing → w.Object Cpu
@@ -48,12 +57,12 @@ object_of (p.pool f n u) = w.pool (number_of f) n u
 object_of (p.table f ss) = w.table (number_of f) (map slot_of ss)
 object_of (p.port f q) = w.port (number_of f) (map wait_of q)
 object_of (p.page f bs) = w.page (number_of f) bs
-object_of (p.thread t) = w.thread 0 (state_of t.state t.cpu) (core_of t.state t.cpu) (number_of t.table) (map number_of t.pages) t.writes
+object_of (p.thread t) = w.thread 0 (state_of t.state t.cpu) (core_of t.state t.cpu) (number_of t.table) (map page_of t.pages) (map may_write t.pages)
 object_of (p.line a b) = w.line a b
 
 -- the lineage of the abstract world has the newest first
 abbrev pub world_of : p.Whole → w.World Cpu
-world_of v = record { objects = map object_of v.things; births = v.births; lineage = reverse (map slot_of v.lineage) }
+world_of v = record { objects = map object_of v.things; births = v.births; lineage = reverse (map cap_of v.lineage) }
 
 -- how a call ends
 abbrev pub went_of : p.Ended → w.Went Cpu fresh act
@@ -62,4 +71,4 @@ went_of (p.wait v o) = w.wait (world_of v) o
 
 -- the program's world
 abbrev pub meant : World → w.World Cpu
-meant v = world_of (p.plain v)
+meant v = world_of v

@@ -1,24 +1,26 @@
 -- The world in the code's own parts: slots, threads, those who wait and answers are the code's types, and what holds many has a list.
 -- Assumes nothing: these are definitions.
-use Rattle.std.specs.Prelude.{ℕ, Bool, true, false, cond, ◌&&◌, ltb, List, map, length, Some, None, vec_items, Option, nat_lt, slice_index_or, slice_set}
+use Rattle.std.specs.Prelude.{◌≡◌, ℕ, Bool, false, ◌&&◌, ltb, List, length, Some, None, vec_items, Option, Result, Ok, Err, IfOk, IsErrOf, slice_index_or, slice_set}
+use Rattle.std.specs.Option.{is_none}
 use Rattle.rights.specs.declared.answers.Answer.{Answer}
-use Rattle.rights.specs.declared.answers.Answer.TheVariants.{No, Done}
+use Rattle.rights.specs.declared.answers.Answer.TheVariants.{No, Done, Heard}
+use Rattle.model.specs.declared.ends.CallError.{CallError}
+use Rattle.model.specs.declared.ends.CallError.TheVariants as error
 use Rattle.model.specs.declared.ends.Outcome.{Outcome}
 use Rattle.model.specs.declared.ends.Outcome.TheVariants.{Answered, Waiting}
 use Rattle.model.specs.declared.objects.Capability.{Capability}
-use Rattle.model.specs.declared.objects.Slot.{Slot}
-use Rattle.model.specs.declared.objects.Slot.TheVariants.{Empty, Full}
+use Rattle.model.specs.declared.objects.Mapping.{Mapping}
 use Rattle.model.specs.declared.objects.Thread.{Thread}
 use Rattle.model.specs.declared.objects.Wait.{Wait}
 use Rattle.model.specs.declared.objects.Object.{Object}
 use Rattle.model.specs.declared.objects.Object.TheVariants as o
-use Rattle.model.specs.declared.objects.World.{World}
+use Rattle.model.specs.declared.ends.Refused.{Refused}
 
 -- objects
 pub data Thing : Type 0 where
   gone : Thing
   pool : Option ℕ → ℕ → ℕ → Thing
-  table : Option ℕ → List Slot → Thing
+  table : Option ℕ → List (Option Capability) → Thing
   port : Option ℕ → List Wait → Thing
   page : Option ℕ → List ℕ → Thing
   thread : Thread → Thing
@@ -28,20 +30,17 @@ pub data Thing : Type 0 where
 pub record Whole : Type 0 where
   pub things : List Thing
   pub births : ℕ
-  pub lineage : List Slot
+  pub lineage : List Capability
 
 -- what the program's values are
 abbrev pub thing : Object → Thing
 thing o.Gone = gone
 thing (o.Pool f n u) = pool f n u
 thing (o.Table f ss) = table f (vec_items ss)
-thing (o.Port f q) = port f (vec_items q)
+thing (o.Port f q) = port f q.items
 thing (o.Page f bs) = page f (vec_items bs)
 thing (o.Thread t) = thread t
-thing (o.Line a b) = line (vec_items a) (vec_items b)
-
-abbrev pub plain : World → Whole
-plain v = record { things = map thing (vec_items v.objects); births = v.births; lineage = vec_items v.lineage }
+thing (o.Line a b) = line (vec_items a) b.items
 
 abbrev pub found : Option Object → Thing
 found None = gone
@@ -49,74 +48,32 @@ found (Some x) = thing x
 
 -- one eliminator for each kind
 abbrev pub on_pool : {A : Type 0} → Thing → A → (Option ℕ → ℕ → ℕ → A) → A
-on_pool gone a f = a
 on_pool (pool g n u) a f = f g n u
-on_pool (table g ss) a f = a
-on_pool (port g ws) a f = a
-on_pool (page g bs) a f = a
-on_pool (thread t) a f = a
-on_pool (line xs ys) a f = a
+on_pool _ a f = a
 
-abbrev pub on_table : {A : Type 0} → Thing → A → (Option ℕ → List Slot → A) → A
-on_table gone a f = a
-on_table (pool g n u) a f = a
+abbrev pub on_table : {A : Type 0} → Thing → A → (Option ℕ → List (Option Capability) → A) → A
 on_table (table g ss) a f = f g ss
-on_table (port g ws) a f = a
-on_table (page g bs) a f = a
-on_table (thread t) a f = a
-on_table (line xs ys) a f = a
+on_table _ a f = a
 
 abbrev pub on_port : {A : Type 0} → Thing → A → (Option ℕ → List Wait → A) → A
-on_port gone a f = a
-on_port (pool g n u) a f = a
-on_port (table g ss) a f = a
 on_port (port g ws) a f = f g ws
-on_port (page g bs) a f = a
-on_port (thread t) a f = a
-on_port (line xs ys) a f = a
+on_port _ a f = a
 
 abbrev pub on_page : {A : Type 0} → Thing → A → (Option ℕ → List ℕ → A) → A
-on_page gone a f = a
-on_page (pool g n u) a f = a
-on_page (table g ss) a f = a
-on_page (port g ws) a f = a
 on_page (page g bs) a f = f g bs
-on_page (thread t) a f = a
-on_page (line xs ys) a f = a
+on_page _ a f = a
 
 abbrev pub on_thread : {A : Type 0} → Thing → A → (Thread → A) → A
-on_thread gone a f = a
-on_thread (pool g n u) a f = a
-on_thread (table g ss) a f = a
-on_thread (port g ws) a f = a
-on_thread (page g bs) a f = a
 on_thread (thread t) a f = f t
-on_thread (line xs ys) a f = a
+on_thread _ a f = a
 
 abbrev pub on_line : {A : Type 0} → Thing → A → (List ℕ → List ℕ → A) → A
-on_line gone a f = a
-on_line (pool g n u) a f = a
-on_line (table g ss) a f = a
-on_line (port g ws) a f = a
-on_line (page g bs) a f = a
-on_line (thread t) a f = a
 on_line (line xs ys) a f = f xs ys
+on_line _ a f = a
 
-abbrev pub on_full : {A : Type 0} → Slot → A → (Capability → A) → A
-on_full Empty a f = a
-on_full (Full c) a f = f c
-
-abbrev pub on_some : {A : Type 0} → Option ℕ → A → (ℕ → A) → A
+abbrev pub on_some : {X A : Type 0} → Option X → A → (X → A) → A
 on_some None a f = a
-on_some (Some n) a f = f n
-
-abbrev pub is_empty : Slot → Bool
-is_empty Empty = true
-is_empty (Full c) = false
-
-abbrev pub is_none : Option ℕ → Bool
-is_none None = true
-is_none (Some n) = false
+on_some (Some x) a f = f x
 
 -- an object by its number, and another in its place
 unfoldable pub object : Whole → ℕ → Thing
@@ -127,51 +84,59 @@ with_object w n x = record { things = slice_set w.things n x; births = w.births;
 
 -- the pool that an object was cut from
 abbrev pub from_of : Thing → Option ℕ
-from_of gone = None
 from_of (pool f n u) = f
 from_of (table f ss) = f
 from_of (port f ws) = f
 from_of (page f bs) = f
-from_of (thread t) = None
-from_of (line xs ys) = None
+from_of _ = None
+
+-- a page of a space, one that is none past the end
+abbrev pub unmapped : Mapping
+unmapped = record { page = None; writes = false }
+
+abbrev pub mapping : List Mapping → ℕ → Mapping
+mapping ps a = slice_index_or ps a unmapped
+
+abbrev pub page_at : List Mapping → ℕ → Option ℕ
+page_at ps a = (mapping ps a).page
 
 -- slots of a table
 abbrev pub table_of : Thing → Option ℕ
 table_of x = on_thread x None (λ t. t.table)
 
-abbrev pub slot_at : Thing → ℕ → Slot
-slot_at x s = on_table x Empty (λ f ss. cond (nat_lt s (length ss)) (slice_index_or ss s Empty) Empty)
+abbrev pub slot_at : Thing → ℕ → Option Capability
+slot_at x s = on_table x None (λ f ss. slice_index_or ss s None)
 
 abbrev pub has_at : Thing → ℕ → Bool
 has_at x s = on_table x false (λ f ss. ltb s (length ss))
 
-abbrev pub put_at : Thing → ℕ → Slot → Thing
-put_at x s c = on_table x x (λ f ss. cond (nat_lt s (length ss)) (table f (slice_set ss s c)) x)
+abbrev pub put_at : Thing → ℕ → Option Capability → Thing
+put_at x s c = on_table x x (λ f ss. table f (slice_set ss s c))
 
 -- slots of a thread's table
-abbrev pub slot_by : Whole → Option ℕ → ℕ → Slot
-slot_by w None s = Empty
+abbrev pub slot_by : Whole → Option ℕ → ℕ → Option Capability
+slot_by w None s = None
 slot_by w (Some t) s = slot_at (object w t) s
 
 abbrev pub has_by : Whole → Option ℕ → ℕ → Bool
 has_by w None s = false
 has_by w (Some t) s = has_at (object w t) s
 
-abbrev pub put_in : Whole → ℕ → ℕ → Slot → Whole
+abbrev pub put_in : Whole → ℕ → ℕ → Option Capability → Whole
 put_in w t s c = with_object w t (put_at (object w t) s c)
 
-abbrev pub put_by : Whole → Option ℕ → ℕ → Slot → Whole
+abbrev pub put_by : Whole → Option ℕ → ℕ → Option Capability → Whole
 put_by w None s c = w
 put_by w (Some t) s c = put_in w t s c
 
-abbrev pub slot : Whole → ℕ → ℕ → Slot
+abbrev pub slot : Whole → ℕ → ℕ → Option Capability
 slot w p s = slot_by w (table_of (object w p)) s
 
 -- a slot that is there and empty
 abbrev pub free : Whole → ℕ → ℕ → Bool
-free w p s = has_by w (table_of (object w p)) s && is_empty (slot_by w (table_of (object w p)) s)
+free w p s = has_by w (table_of (object w p)) s && is_none (slot_by w (table_of (object w p)) s)
 
-abbrev pub with_slot : Whole → ℕ → ℕ → Slot → Whole
+abbrev pub with_slot : Whole → ℕ → ℕ → Option Capability → Whole
 with_slot w p s c = put_by w (table_of (object w p)) s c
 
 -- what a call at one object leaves of it, and what comes back
@@ -199,3 +164,16 @@ done w = on w Done
 
 abbrev pub change : Whole → ℕ → Left → Ended
 change w n l = on (with_object w n l.it) l.answer
+
+-- what comes back from a call that is done, or refused
+abbrev pub done_or_no : Result (Unit {0}) Refused → Answer
+done_or_no (Ok u) = Done
+done_or_no (Err e) = No
+
+abbrev pub heard_or_no : Result ℕ Refused → Answer
+heard_or_no (Ok b) = Heard b
+heard_or_no (Err e) = No
+
+-- f of what a call came to is x, and z is x where it was refused; of one that gave up nothing is said
+abbrev pub Comes : {A X : Type 0} → Result A CallError → (A → X) → X → X → Type 0
+Comes r f z x = IfOk r (λ a. f a ≡ x) × (IsErrOf r error.Refused → z ≡ x)

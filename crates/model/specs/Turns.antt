@@ -1,5 +1,5 @@
 -- One event over the world in the code's own parts. Assumes nothing: these are definitions.
-use Rattle.std.specs.Prelude.{◌≡◌, ℕ, ◌+◌, ◌/◌, ◌%◌, Bool, true, false, cond, ◌&&◌, List, [], ◌∷◌, length, Some, None, Option, nat_le, nat_lt, slice_index, slice_index_or, slice_set}
+use Rattle.std.specs.Prelude.{◌≡◌, ℕ, ◌+◌, ◌/◌, ◌%◌, Bool, true, false, cond, ◌&&◌, List, ◌++◌, length, take, drop, Some, None, Option, nat_le, slice_index_or}
 use Rattle.rights.specs.declared.calls.Call.{Call}
 use Rattle.rights.specs.declared.calls.Call.TheVariants as call
 use Rattle.rights.specs.Vocabulary.{words}
@@ -9,9 +9,10 @@ use Rattle.rv32.specs.declared.steps.Step.TheVariants as step
 use Rattle.rv32.specs.Registers.{fresh, next, gone_on, returned}
 use Rattle.rv32.specs.Execute.{bytes, act, told}
 use Rattle.rights.specs.World.{Act}
+use Rattle.model.specs.declared.objects.Mapping.{Mapping}
 use Rattle.model.specs.declared.objects.State.{State}
 use Rattle.model.specs.declared.objects.State.TheVariants.{Stopped, Ready, Waits}
-use Rattle.model.specs.Plain.{Thing, page, thread, Whole, on_page, on_thread, on_some, object, with_object, Ended, on, wait}
+use Rattle.model.specs.Plain.{Thing, page, thread, Whole, on_page, on_thread, on_some, mapping, page_at, object, with_object, Ended, on, wait}
 use Rattle.model.specs.Calls as calls
 use Rattle.model.specs.Calls.{with_state}
 use Rattle.model.specs.Cuts.{cut}
@@ -46,16 +47,15 @@ cpu_of x = on_thread x (fresh 0) (λ t. t.cpu)
 
 -- the byte at a place of a page, and at an address of a space, 256 where there is none
 abbrev pub byte_in : Thing → ℕ → ℕ
-byte_in x k = on_page x 0 (λ f bs. cond (nat_lt k (length bs)) (slice_index bs k) 0)
+byte_in x k = on_page x 0 (λ f bs. slice_index_or bs k 0)
 
-abbrev pub seen : Whole → List (Option ℕ) → ℕ → ℕ
-seen w ps a = on_some (slice_index_or ps (a / 4096) None) 256 (λ o. byte_in (object w o) (a % 4096))
+abbrev pub seen : Whole → List Mapping → ℕ → ℕ
+seen w ps a = on_some (page_at ps (a / 4096)) 256 (λ o. byte_in (object w o) (a % 4096))
 
 -- what thread p does next, if it is ready
 abbrev pub is_ready : State → Bool
-is_ready Stopped = false
 is_ready Ready = true
-is_ready (Waits o) = false
+is_ready _ = false
 
 abbrev pub next_act : Whole → Thing → Option (Act Cpu)
 next_act w x = on_thread x None (λ t. cond (is_ready t.state) (Some (act t.cpu (seen w t.pages))) None)
@@ -65,17 +65,16 @@ abbrev pub told_of : Thing → Option Step → Option (Act Cpu)
 told_of x None = None
 told_of x (Some s) = Some (told (cpu_of x) s)
 
--- bytes that are stored into a page, if they lie inside
-abbrev pub put_bytes : ℕ → List ℕ → List ℕ → List ℕ
-put_bytes k [] old = old
-put_bytes k (b ∷ bs) old = put_bytes (k + 1) bs (slice_set old k b)
+-- bytes that are stored into a page, from place k on, if they lie inside
+abbrev pub over : ℕ → List ℕ → List ℕ → List ℕ
+over k bs old = take k old ++ (bs ++ drop (k + length bs) old)
 
 abbrev pub stored : ℕ → List ℕ → Thing → Thing
-stored k bs x = on_page x x (λ f old. cond (nat_le (k + length bs) (length old)) (page f (put_bytes k bs old)) x)
+stored k bs x = on_page x x (λ f old. cond (nat_le (k + length bs) (length old)) (page f (over k bs old)) x)
 
 -- the page that n bytes may be stored to, at an address of a thread's space
 abbrev pub may_store : Thing → ℕ → ℕ → Option ℕ
-may_store x a n = on_thread x None (λ t. cond (slice_index_or t.writes (a / 4096) false && nat_le (a % 4096 + n) 4096) (slice_index_or t.pages (a / 4096) None) None)
+may_store x a n = on_thread x None (λ t. cond ((mapping t.pages (a / 4096)).writes && nat_le (a % 4096 + n) 4096) (page_at t.pages (a / 4096)) None)
 
 abbrev pub stores_to : Whole → ℕ → ℕ → ℕ → List ℕ → Whole
 stores_to w p o k bs = with_thread (with_object w o (stored k bs (object w o))) p Ready (next (cpu_of (object w p)))

@@ -1,46 +1,72 @@
 // Calls on slots, lines and threads.
 ghost use Rattle.std.specs.Prelude.{◌≡◌, suc, IfOk, OnOk};
+ghost use Rattle.std.specs.Result.{result_ok};
+ghost use Rattle.rights.specs.declared.answers.Answer.TheVariants.{No, Done};
 ghost use Rattle.model.specs.Calls as calls;
 ghost use Rattle.model.specs.Plain as plain;
 
-use crate::objects::{Capability, Fault, Slot, World};
-use rights::{Answer, Rights};
+use crate::ends::{CallError, Refused};
+use crate::objects::{Capability, Fault, Object, World};
+use rights::Rights;
 
 // What is made of a capability: no more rights, and a badge if it has none.
-fn copied(c: Capability, rights: Rights, badge: u32, birth: u64) -> Slot
+fn copied(c: Capability, rights: Rights, badge: u32, birth: u64) -> Capability
     ensures { result ≡ calls.copied c rights badge birth }
 {
-    Slot::Full(Capability {
+    Capability {
         object: c.object,
         rights: c.rights.meet(rights),
         badge: if c.badge == 0 { badge } else { c.badge },
         birth,
         mother: c.birth,
-    })
+    }
 }
 
+// A thread and the number of a slot stand beside each other, not in a pair: a call names one thread and
+// up to three slots of it.
 impl World {
-    // Nothing is done where there is no such slot.
-    pub fn put_slot(&mut self, p: usize, s: u32, x: Slot)
-        ensures { plain.plain self.new ≡ plain.with_slot (plain.plain self.old) p s x }
+    // What slot `s` of thread `p` holds.
+    pub fn held(&self, p: usize, s: u32) -> Result<Capability, Refused>
+        ensures { result_ok result ≡ plain.slot self.now p s }
     {
-        if let Some(t) = self.table_of(p) {
-            self.put_slot_in(t, s, x);
+        self.slot(p, s).ok_or(Refused)
+    }
+
+    // The same, if its rights say reads.
+    pub fn readable(&self, p: usize, s: u32) -> Result<Capability, Refused>
+        ensures { result_ok result ≡ calls.readable self.now p s }
+    {
+        self.slot(p, s).filter(|c| c.rights.reads()).ok_or(Refused)
+    }
+
+    // The same, if its rights say writes.
+    pub fn writable(&self, p: usize, s: u32) -> Result<Capability, Refused>
+        ensures { result_ok result ≡ calls.writable self.now p s }
+    {
+        self.slot(p, s).filter(|c| c.rights.writes()).ok_or(Refused)
+    }
+
+    // Nothing is done where there is no such slot.
+    pub fn put_slot(&mut self, p: usize, s: u32, x: Option<Capability>)
+        ensures { self.new ≡ plain.with_slot self.old p s x }
+    {
+        let Some(t) = self.table_of(p) else {
+            return;
+        };
+        if let Some(table) = self.get_mut(t) {
+            table.put_slot(s, x);
         }
     }
 
     pub fn next_birth(&self) -> Result<u64, Fault>
         ensures { IfOk result (λ n. n ≡ suc self.now.births) }
     {
-        match self.births.checked_add(1) {
-            Some(birth) => Ok(birth),
-            None => Err(Fault::Numbers),
-        }
+        self.births.checked_add(1).ok_or(Fault::Numbers)
     }
 
     // One more capability was made.
-    pub fn bear(&mut self, child: Slot) -> Result<(), Fault>
-        ensures { OnOk result (plain.plain self.new ≡ calls.born (plain.plain self.old) child) }
+    pub fn bear(&mut self, child: Capability) -> Result<(), Fault>
+        ensures { OnOk result (self.new ≡ calls.born self.old child) }
     {
         self.births = self.next_birth()?;
         self.lineage.push(child)?;
@@ -54,120 +80,88 @@ impl World {
         d: u32,
         rights: Rights,
         badge: u32,
-    ) -> Result<Answer, Fault>
-        ensures { IfOk result (λ a. plain.on (plain.plain self.new) a ≡ calls.copy (plain.plain self.old) p s d rights badge) }
+    ) -> Result<(), CallError>
+        ensures { plain.Comes result (λ _. plain.on self.new Done) (plain.on self.new No) (calls.copy self.old p s d rights badge) }
     {
-        let Slot::Full(c) = self.slot(p, s) else {
-            return Ok(Answer::No);
-        };
+        let c = self.held(p, s)?;
         if !c.rights.hands_on() || !self.is_free(p, d) {
-            return Ok(Answer::No);
+            return Err(CallError::Refused);
         }
         let child = copied(c, rights, badge, self.next_birth()?);
         self.bear(child)?;
-        self.put_slot(p, d, child);
-        Ok(Answer::Done)
+        self.put_slot(p, d, Some(child));
+        Ok(())
     }
 
-    pub fn shift(&mut self, p: usize, s: u32, d: u32) -> Answer
-        ensures { plain.on (plain.plain self.new) result ≡ calls.move (plain.plain self.old) p s d }
+    pub fn shift(&mut self, p: usize, s: u32, d: u32) -> Result<(), Refused>
+        ensures { plain.on self.new (plain.done_or_no result) ≡ calls.move self.old p s d }
     {
-        let Slot::Full(c) = self.slot(p, s) else {
-            return Answer::No;
-        };
+        let c = self.held(p, s)?;
         if !self.is_free(p, d) {
-            return Answer::No;
+            return Err(Refused);
         }
-        self.put_slot(p, d, Slot::Full(c));
-        self.put_slot(p, s, Slot::Empty);
-        Answer::Done
+        self.put_slot(p, d, Some(c));
+        self.put_slot(p, s, None);
+        Ok(())
     }
 
-    pub fn let_go(&mut self, p: usize, s: u32) -> Answer
-        ensures { plain.on (plain.plain self.new) result ≡ calls.drop_it (plain.plain self.old) p s }
+    pub fn let_go(&mut self, p: usize, s: u32) -> Result<(), Refused>
+        ensures { plain.on self.new (plain.done_or_no result) ≡ calls.drop_it self.old p s }
     {
-        let Slot::Full(_) = self.slot(p, s) else {
-            return Answer::No;
-        };
-        self.put_slot(p, s, Slot::Empty);
-        Answer::Done
+        self.held(p, s)?;
+        self.put_slot(p, s, None);
+        Ok(())
     }
 
-    pub fn say(&mut self, p: usize, s: u32, b: u32) -> Result<Answer, Fault>
-        ensures { IfOk result (λ a. plain.on (plain.plain self.new) a ≡ calls.say (plain.plain self.old) p s b) }
+    pub fn say(&mut self, p: usize, s: u32, b: u32) -> Result<(), CallError>
+        ensures { plain.Comes result (λ _. plain.on self.new Done) (plain.on self.new No) (calls.say self.old p s b) }
     {
-        let Slot::Full(c) = self.slot(p, s) else {
-            return Ok(Answer::No);
-        };
-        if !c.rights.writes() {
-            return Ok(Answer::No);
-        }
-        self.say_at(c.object, (b % 256) as u8)
+        let line = self.writable(p, s)?.object;
+        self.get_mut(line).ok_or(Refused)?.say((b % 256) as u8)
     }
 
-    pub fn hear(&mut self, p: usize, s: u32) -> Answer
-        ensures { plain.on (plain.plain self.new) result ≡ calls.hear (plain.plain self.old) p s }
+    pub fn hear(&mut self, p: usize, s: u32) -> Result<u8, Refused>
+        ensures { plain.on self.new (plain.heard_or_no result) ≡ calls.hear self.old p s }
     {
-        let Slot::Full(c) = self.slot(p, s) else {
-            return Answer::No;
-        };
-        if !c.rights.reads() {
-            return Answer::No;
-        }
-        self.hear_at(c.object)
+        let line = self.readable(p, s)?.object;
+        self.get_mut(line).ok_or(Refused)?.hear()
     }
 
-    pub fn go(&mut self, p: usize, t: u32, pc: u32) -> Answer
-        ensures { plain.on (plain.plain self.new) result ≡ calls.go (plain.plain self.old) p t pc }
+    pub fn go(&mut self, p: usize, t: u32, pc: u32) -> Result<(), Refused>
+        ensures { plain.on self.new (plain.done_or_no result) ≡ calls.go self.old p t pc }
     {
-        let Slot::Full(c) = self.slot(p, t) else {
-            return Answer::No;
-        };
-        if !c.rights.writes() {
-            return Answer::No;
-        }
-        self.go_at(c.object, pc)
+        let thread = self.writable(p, t)?.object;
+        self.get_mut(thread).ok_or(Refused)?.go(pc)
     }
 
-    pub fn bind(&mut self, p: usize, t: u32, s: u32) -> Answer
-        ensures { plain.on (plain.plain self.new) result ≡ calls.bind (plain.plain self.old) p t s }
+    pub fn bind(&mut self, p: usize, t: u32, s: u32) -> Result<(), Refused>
+        ensures { plain.on self.new (plain.done_or_no result) ≡ calls.bind self.old p t s }
     {
-        let Slot::Full(c) = self.slot(p, t) else {
-            return Answer::No;
-        };
-        let Slot::Full(d) = self.slot(p, s) else {
-            return Answer::No;
-        };
-        if !d.rights.writes() || !c.rights.writes() || !self.is_table(d.object) {
-            return Answer::No;
+        let table = self.writable(p, s)?.object;
+        let thread = self.writable(p, t)?.object;
+        if !self.get(table).is_some_and(Object::is_table) {
+            return Err(Refused);
         }
-        self.bind_at(c.object, d.object)
+        self.get_mut(thread).ok_or(Refused)?.bind(table)
     }
 
-    pub fn map(&mut self, p: usize, s: u32, t: u32, place: u32) -> Answer
-        ensures { plain.on (plain.plain self.new) result ≡ calls.map (plain.plain self.old) p s t place }
+    pub fn map(&mut self, p: usize, s: u32, t: u32, place: u32) -> Result<(), Refused>
+        ensures { plain.on self.new (plain.done_or_no result) ≡ calls.map self.old p s t place }
     {
-        let Slot::Full(c) = self.slot(p, s) else {
-            return Answer::No;
-        };
-        let Slot::Full(d) = self.slot(p, t) else {
-            return Answer::No;
-        };
-        if !c.rights.reads() || !d.rights.writes() || !self.is_page(c.object) {
-            return Answer::No;
+        let page = self.readable(p, s)?;
+        let thread = self.writable(p, t)?.object;
+        if !self.get(page.object).is_some_and(Object::is_page) {
+            return Err(Refused);
         }
-        self.map_at(d.object, place, c.object, c.rights.writes())
+        self.get_mut(thread)
+            .ok_or(Refused)?
+            .map(place, page.object, page.rights.writes())
     }
 
-    pub fn unmap(&mut self, p: usize, t: u32, place: u32) -> Answer
-        ensures { plain.on (plain.plain self.new) result ≡ calls.unmap (plain.plain self.old) p t place }
+    pub fn unmap(&mut self, p: usize, t: u32, place: u32) -> Result<(), Refused>
+        ensures { plain.on self.new (plain.done_or_no result) ≡ calls.unmap self.old p t place }
     {
-        let Slot::Full(c) = self.slot(p, t) else {
-            return Answer::No;
-        };
-        if !c.rights.writes() {
-            return Answer::No;
-        }
-        self.unmap_at(c.object, place)
+        let thread = self.writable(p, t)?.object;
+        self.get_mut(thread).ok_or(Refused)?.unmap(place)
     }
 }

@@ -1,20 +1,23 @@
 // Cut: a new object out of a pool.
 ghost use Rattle.std.specs.Prelude.{◌≡◌, length, replicate, IfOk, OnOk};
+ghost use Rattle.rights.specs.declared.answers.Answer.TheVariants.{No, Done};
 ghost use Rattle.model.specs.Calls as calls;
 ghost use Rattle.model.specs.Cuts as cuts;
 ghost use Rattle.model.specs.Plain as plain;
 
-use crate::objects::{Capability, Fault, Object, Slot, World};
-use rights::{Answer, NewObject, Rights};
+use crate::ends::{CallError, Refused};
+use crate::objects::{Capability, Fault, Object, World};
+use rights::{NewObject, Rights};
 use std::alloc::Global;
+use std::collections::VecDeque;
 
 // What an object costs of its pool.
 fn cost(what: NewObject) -> u64
     ensures { result ≡ calls.cost what }
 {
     match what {
-        NewObject::Pool(n) => n as u64 * 4096,
-        NewObject::Table(n) => n as u64 * 64,
+        NewObject::Pool(n) => u64::from(n) * 4096,
+        NewObject::Table(n) => u64::from(n) * 64,
         NewObject::Port => 64,
         NewObject::Page => 4096,
     }
@@ -30,12 +33,13 @@ fn filling(what: NewObject) -> u64
     }
 }
 
-// Whether it has a right size.
+// Whether it has a right size. The same numbers are a limit of images and of calls, each over an enum of
+// its own.
 fn right(what: NewObject) -> bool
     ensures { result ≡ calls.right what }
 {
     match what {
-        NewObject::Pool(n) | NewObject::Table(n) => 0 < n && n <= 4096,
+        NewObject::Pool(n) | NewObject::Table(n) => (1..=4096).contains(&n),
         NewObject::Port | NewObject::Page => true,
     }
 }
@@ -44,19 +48,14 @@ fn right(what: NewObject) -> bool
 fn zeros(heap: Global, n: usize) -> Result<Vec<u8>, Fault>
     ensures { IfOk result (λ v. v.items ≡ replicate n 0) }
 {
-    let bytes = vec![in heap; 0; n]?;
-    Ok(bytes)
+    Ok(vec![in heap; 0; n]?)
 }
 
 // The next multiple of 64 or 4,096, if it has 64 bits.
 fn filled(what: NewObject, used: u64) -> Option<u64>
     ensures { result ≡ cuts.if_64_bits (calls.up_to (calls.filling what) used) }
 {
-    let step = filling(what);
-    if used % step == 0 {
-        return Some(used);
-    }
-    used.checked_add(step - used % step)
+    used.checked_next_multiple_of(filling(what))
 }
 
 // How much of a pool of a size is used once an object is cut, if it fits.
@@ -74,7 +73,7 @@ fn room(what: NewObject, size: u64, used: u64) -> Option<u64>
 }
 
 impl Object {
-    // A pool's size and how much of it is used.
+    // A pool's size, and how much of it is used.
     pub fn pool(&self) -> Option<(u64, u64)>
         ensures { result ≡ cuts.pool_of (plain.thing self.now) }
     {
@@ -82,6 +81,14 @@ impl Object {
             Object::Pool { size, used, .. } => Some((*size, *used)),
             _ => None,
         }
+    }
+
+    // How much of a pool is used once an object is cut, if it is a pool and that fits.
+    pub fn room(&self, what: NewObject) -> Option<u64>
+        ensures { result ≡ cuts.room_in what (plain.thing self.now) }
+    {
+        let (size, used) = self.pool()?;
+        room(what, size, used)
     }
 
     pub fn set_used(&mut self, after: u64)
@@ -100,16 +107,16 @@ impl Object {
         match what {
             NewObject::Pool(n) => Ok(Object::Pool {
                 from,
-                size: n as u64 * 4096,
+                size: u64::from(n) * 4096,
                 used: 0,
             }),
             NewObject::Table(n) => {
-                let slots = vec![in heap; Slot::Empty; n as usize]?;
+                let slots = vec![in heap; None; n as usize]?;
                 Ok(Object::Table { from, slots })
             }
             NewObject::Port => Ok(Object::Port {
                 from,
-                queue: Vec::new(heap),
+                queue: VecDeque::new(heap),
             }),
             NewObject::Page => {
                 let bytes = zeros(heap, 4096)?;
@@ -120,23 +127,9 @@ impl Object {
 }
 
 impl World {
-    pub fn pool(&self, o: usize) -> Option<(u64, u64)>
-        ensures { result ≡ cuts.pool_of (plain.object (plain.plain self.now) o) }
-    {
-        self.get(o)?.pool()
-    }
-
-    pub fn set_used(&mut self, o: usize, after: u64)
-        ensures { plain.plain self.new ≡ plain.with_object (plain.plain self.old) o (cuts.with_used after (plain.object (plain.plain self.old) o)) }
-    {
-        if let Some(it) = self.get_mut(o) {
-            it.set_used(after);
-        }
-    }
-
     // One object more.
     pub fn add(&mut self, it: Object) -> Result<(), Fault>
-        ensures { OnOk result (plain.plain self.new ≡ calls.grown (plain.plain self.old) (plain.thing it)) }
+        ensures { OnOk result (self.new ≡ calls.grown self.old (plain.thing it)) }
     {
         self.objects.push(it)?;
         Ok(())
@@ -144,22 +137,22 @@ impl World {
 
     // How many objects there ever were.
     pub fn count(&self) -> usize
-        ensures { result ≡ length (plain.plain self.now).things }
+        ensures { result ≡ length self.now.things }
     {
         self.objects.len()
     }
 
     // The capability to the next object that is made.
-    fn newborn(&self, mother: u64) -> Result<Slot, Fault>
-        ensures { IfOk result (λ x. x ≡ calls.newborn (plain.plain self.now) mother) }
+    fn newborn(&self, mother: u64) -> Result<Capability, Fault>
+        ensures { IfOk result (λ x. x ≡ calls.newborn self.now mother) }
     {
-        Ok(Slot::Full(Capability {
+        Ok(Capability {
             object: self.count(),
             rights: Rights::all(),
             badge: 0,
             birth: self.next_birth()?,
             mother,
-        }))
+        })
     }
 
     pub fn cut_at(
@@ -169,32 +162,27 @@ impl World {
         mother: u64,
         what: NewObject,
         d: u32,
-    ) -> Result<Answer, Fault>
-        ensures { IfOk result (λ a. plain.on (plain.plain self.new) a ≡ cuts.cut_at (plain.plain self.old) p o mother what d) }
+    ) -> Result<(), CallError>
+        ensures { plain.Comes result (λ _. plain.on self.new Done) (plain.on self.new No) (cuts.cut_at self.old p o mother what d) }
     {
-        let Some((size, used)) = self.pool(o) else {
-            return Ok(Answer::No);
-        };
-        let Some(after) = room(what, size, used) else {
-            return Ok(Answer::No);
-        };
+        let after = self.get(o).and_then(|it| it.room(what)).ok_or(Refused)?;
         let child = self.newborn(mother)?;
         let it = Object::made(*self.objects.allocator(), o, what)?;
-        self.set_used(o, after);
+        if let Some(pool) = self.get_mut(o) {
+            pool.set_used(after);
+        }
         self.add(it)?;
         self.bear(child)?;
-        self.put_slot(p, d, child);
-        Ok(Answer::Done)
+        self.put_slot(p, d, Some(child));
+        Ok(())
     }
 
-    pub fn cut(&mut self, p: usize, s: u32, what: NewObject, d: u32) -> Result<Answer, Fault>
-        ensures { IfOk result (λ a. plain.on (plain.plain self.new) a ≡ cuts.cut (plain.plain self.old) p s what d) }
+    pub fn cut(&mut self, p: usize, s: u32, what: NewObject, d: u32) -> Result<(), CallError>
+        ensures { plain.Comes result (λ _. plain.on self.new Done) (plain.on self.new No) (cuts.cut self.old p s what d) }
     {
-        let Slot::Full(c) = self.slot(p, s) else {
-            return Ok(Answer::No);
-        };
-        if !c.rights.writes() || !self.is_free(p, d) {
-            return Ok(Answer::No);
+        let c = self.writable(p, s)?;
+        if !self.is_free(p, d) {
+            return Err(CallError::Refused);
         }
         self.cut_at(p, c.object, c.birth, what, d)
     }

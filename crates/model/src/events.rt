@@ -4,13 +4,14 @@ ghost use Rattle.model.specs.Plain as plain;
 ghost use Rattle.model.specs.Turns as turns;
 ghost use Rattle.rv32.specs.Execute as core;
 ghost use Rattle.rv32.specs.Registers as registers;
+ghost use Rattle.rights.specs.declared.answers.Answer.TheVariants.{No};
+ghost use Rattle.model.specs.declared.ends.Outcome.TheVariants.{Answered};
 ghost use Rattle.model.specs.declared.objects.State.TheVariants as State;
 ghost use Rattle.rv32.specs.declared.steps.Step.TheVariants as Step;
 
-use crate::ends::Outcome;
-use crate::marks::flag;
+use crate::ends::{CallError, Outcome};
 use crate::objects::{Fault, Object, State, Thread, World};
-use crate::spaces::{Space, page_at};
+use crate::spaces::Space;
 use rights::{Answer, Call};
 use rv32::{Cpu, Step, Width, act};
 
@@ -39,13 +40,14 @@ impl Object {
         let Object::Thread(t) = self else {
             return None;
         };
-        let at = address as usize / 4096;
-        if !flag(&t.writes, at) || address as u64 % 4096 + size as u64 > 4096 {
+        let mapping = t.pages.get(address as usize / 4096)?;
+        if !mapping.writes || u64::from(address) % 4096 + u64::from(size) > 4096 {
             return None;
         }
-        page_at(&t.pages, at)
+        mapping.page
     }
 
+    // The range is tested by hand, since of a get_mut no bytes are known after it.
     pub fn store(&mut self, k: usize, width: Width, value: u32)
         ensures { plain.thing self.new ≡ turns.stored k (core.bytes width value) (plain.thing self.old) }
     {
@@ -56,35 +58,20 @@ impl Object {
         if bytes.len() < size || k > bytes.len() - size {
             return;
         }
-        let [a, b, c, d] = value.to_le_bytes();
-        match width {
-            Width::Byte => bytes[k] = a,
-            Width::Half => {
-                bytes[k] = a;
-                bytes[k + 1] = b;
-            }
-            Width::Word => {
-                bytes[k] = a;
-                bytes[k + 1] = b;
-                bytes[k + 2] = c;
-                bytes[k + 3] = d;
-            }
-        }
+        let word = value.to_le_bytes();
+        bytes[k..k + size].copy_from_slice(&word[..size]);
     }
 }
 
 impl World {
     pub fn cpu(&self, p: usize) -> Cpu
-        ensures { result ≡ turns.cpu_of (plain.object (plain.plain self.now) p) }
+        ensures { result ≡ turns.cpu_of (plain.object self.now p) }
     {
-        match self.get(p) {
-            Some(it) => it.cpu(),
-            None => Cpu::fresh(0),
-        }
+        self.get(p).map_or(Cpu::fresh(0), Object::cpu)
     }
 
     pub fn set_thread(&mut self, p: usize, state: State, cpu: Cpu)
-        ensures { plain.plain self.new ≡ turns.with_thread (plain.plain self.old) p state cpu }
+        ensures { self.new ≡ turns.with_thread self.old p state cpu }
     {
         if let Some(it) = self.get_mut(p) {
             it.set_state(state, cpu);
@@ -92,33 +79,26 @@ impl World {
     }
 
     pub fn may_store(&self, p: usize, address: u32, size: u32) -> Option<usize>
-        ensures { result ≡ turns.may_store (plain.object (plain.plain self.now) p) address size }
+        ensures { result ≡ turns.may_store (plain.object self.now p) address size }
     {
-        match self.get(p) {
-            Some(it) => it.may_store(address, size),
-            None => None,
-        }
+        self.get(p)?.may_store(address, size)
     }
 
-    pub fn store_in(&mut self, o: usize, k: usize, width: Width, value: u32)
-        ensures { plain.plain self.new ≡ plain.with_object (plain.plain self.old) o (turns.stored k (core.bytes width value) (plain.object (plain.plain self.old) o)) }
+    // What a call of thread `p` does, or why it does nothing.
+    fn attempt(&mut self, p: usize, call: Call) -> Result<Outcome, CallError>
+        ensures { plain.Comes result (plain.ended self.new) (plain.on self.new No) (turns.does self.old p call) }
     {
-        if let Some(it) = self.get_mut(o) {
-            it.store(k, width, value);
-        }
-    }
-
-    // What a call of thread `p` does.
-    pub fn call(&mut self, p: usize, call: Call) -> Result<Outcome, Fault>
-        ensures { IfOk result (λ e. plain.ended (plain.plain self.new) e ≡ turns.does (plain.plain self.old) p call) }
-    {
-        let answer = match call {
+        match call {
             Call::Send {
                 port,
                 hand_on,
                 words,
             } => return self.send(p, port, hand_on, words),
             Call::Receive { port, into } => return self.receive(p, port, into),
+            Call::Hear { line } => {
+                let byte = self.hear(p, line)?;
+                return Ok(Outcome::Answered(Answer::Heard(byte)));
+            }
             Call::Cut { pool, what, into } => self.cut(p, pool, what, into)?,
             Call::Copy {
                 from,
@@ -126,26 +106,36 @@ impl World {
                 rights,
                 badge,
             } => self.copy(p, from, into, rights, badge)?,
-            Call::Move { from, into } => self.shift(p, from, into),
-            Call::Drop { slot } => self.let_go(p, slot),
+            Call::Move { from, into } => self.shift(p, from, into)?,
+            Call::Drop { slot } => self.let_go(p, slot)?,
             Call::Revoke { slot } => self.revoke(p, slot)?,
             Call::Map {
                 page,
                 thread,
                 place,
-            } => self.map(p, page, thread, place),
-            Call::Unmap { thread, place } => self.unmap(p, thread, place),
-            Call::Bind { thread, table } => self.bind(p, thread, table),
-            Call::Go { thread, pc } => self.go(p, thread, pc),
+            } => self.map(p, page, thread, place)?,
+            Call::Unmap { thread, place } => self.unmap(p, thread, place)?,
+            Call::Bind { thread, table } => self.bind(p, thread, table)?,
+            Call::Go { thread, pc } => self.go(p, thread, pc)?,
             Call::Say { line, byte } => self.say(p, line, byte)?,
-            Call::Hear { line } => self.hear(p, line),
-        };
-        Ok(Outcome::Answered(answer))
+        }
+        Ok(Outcome::Answered(Answer::Done))
+    }
+
+    // What a call of thread `p` does. One that is refused has the answer no.
+    pub fn call(&mut self, p: usize, call: Call) -> Result<Outcome, Fault>
+        ensures { IfOk result (λ e. plain.ended self.new e ≡ turns.does self.old p call) }
+    {
+        match self.attempt(p, call) {
+            Ok(outcome) => Ok(outcome),
+            Err(CallError::Refused) => Ok(Outcome::Answered(Answer::No)),
+            Err(CallError::Fault(fault)) => Err(fault),
+        }
     }
 
     // What thread `p` does next, if it is ready.
     pub fn next_step(&self, p: usize) -> Option<Step>
-        ensures { turns.told_of (plain.object (plain.plain self.now) p) result ≡ turns.next_act (plain.plain self.now) (plain.object (plain.plain self.now) p) }
+        ensures { turns.told_of (plain.object self.now p) result ≡ turns.next_act self.now (plain.object self.now p) }
     {
         let Some(Object::Thread(t)) = self.get(p) else {
             return None;
@@ -161,26 +151,28 @@ impl World {
     }
 
     fn stop(&mut self, p: usize)
-        ensures { plain.plain self.new ≡ turns.with_thread (plain.plain self.old) p State.Stopped (registers.fresh 0) }
+        ensures { self.new ≡ turns.with_thread self.old p State.Stopped (registers.fresh 0) }
     {
         self.set_thread(p, State::Stopped, Cpu::fresh(0));
     }
 
     fn store(&mut self, p: usize, address: u32, width: Width, value: u32)
-        ensures { plain.plain self.new ≡ turns.carried (plain.plain self.old) p (Step.Store address width value) }
+        ensures { self.new ≡ turns.carried self.old p (Step.Store address width value) }
     {
         let Some(o) = self.may_store(p, address, width.size()) else {
             self.stop(p);
             return;
         };
         let mut cpu = self.cpu(p);
-        self.store_in(o, address as usize % 4096, width, value);
+        if let Some(page) = self.get_mut(o) {
+            page.store(address as usize % 4096, width, value);
+        }
         cpu.advance();
         self.set_thread(p, State::Ready, cpu);
     }
 
     fn call_and_go_on(&mut self, p: usize, call: Call) -> Result<(), Fault>
-        ensures { OnOk result (plain.plain self.new ≡ turns.carried (plain.plain self.old) p (Step.Call call)) }
+        ensures { OnOk result (self.new ≡ turns.carried self.old p (Step.Call call)) }
     {
         let mut cpu = self.cpu(p);
         match self.call(p, call)? {
@@ -195,7 +187,7 @@ impl World {
 
     // Carries out a step of thread `p`.
     pub fn carry_out(&mut self, p: usize, step: Step) -> Result<(), Fault>
-        ensures { OnOk result (plain.plain self.new ≡ turns.carried (plain.plain self.old) p step) }
+        ensures { OnOk result (self.new ≡ turns.carried self.old p step) }
     {
         match step {
             Step::Next {
@@ -220,7 +212,7 @@ impl World {
 
     // One instruction's time for thread `p`; nothing if it is not ready.
     pub fn tick(&mut self, p: usize) -> Result<(), Fault>
-        ensures { OnOk result (turns.Ticked (plain.plain self.old) p (plain.plain self.new)) }
+        ensures { OnOk result (turns.Ticked self.old p self.new) }
     {
         match self.next_step(p) {
             Some(step) => self.carry_out(p, step),

@@ -16,6 +16,7 @@ mod sweeps;
 mod theorems;
 mod threads;
 
-pub use ends::{First, Outcome};
-pub use objects::{Capability, Fault, Object, Slot, State, Thread, Wait, World};
+pub use ends::{CallError, Outcome, Refused};
+pub use marks::Marks;
+pub use objects::{Capability, Fault, Letter, Mapping, Object, State, Thread, Wait, World};
 pub use theorems::{calls_agree, events_agree, small_is_sound};

@@ -1,17 +1,49 @@
 // Marks: what was made from a capability, and what was cut from a pool, each found in one pass.
-ghost use Rattle.std.specs.Prelude.{◌≡◌, false, [], map, IfOk, slice_index_or};
+ghost use Rattle.std.specs.Prelude.{◌≡◌, Bool, List, false, [], map, IfOk, slice_index_or};
 ghost use Rattle.model.specs.Calls as calls;
 ghost use Rattle.model.specs.Plain as plain;
 ghost use Rattle.model.specs.Sweeps as sweeps;
 
-use crate::objects::{Fault, Object, Slot, World};
+use crate::objects::{Capability, Fault, Object, World};
 use std::alloc::Global;
+use std::marker::Model;
+
+// What a revoke takes: births after `base` with a mark, and objects with a mark.
+#[derive(Drop)]
+pub struct Marks {
+    pub base: u64,
+    pub births: Vec<bool>,
+    pub objects: Vec<bool>,
+}
+
+impl Model for Marks {
+    ghost use Rattle.std.specs.Prelude.{vec_items};
+    ghost use Rattle.model.specs.Sweeps.{Marks};
+
+    ghost Value = { Marks };
+
+    ghost view = { λ k. record { base = k.base; births = vec_items k.births; objects = vec_items k.objects } };
+}
+
+impl Marks {
+    pub fn takes(&self, o: usize) -> bool
+        ensures { result ≡ sweeps.takes self.now o }
+    {
+        flag(self.objects.as_slice(), o)
+    }
+
+    pub fn takes_birth(&self, birth: u64) -> bool
+        ensures { result ≡ sweeps.takes_birth self.now birth }
+    {
+        marked(self.base, self.births.as_slice(), birth)
+    }
+}
 
 // The mark at a place, none past the end.
 pub fn flag(marks: &[bool], i: usize) -> bool
     ensures { result ≡ slice_index_or marks.now i false }
 {
-    if i < marks.len() { marks[i] } else { false }
+    marks.get(i).copied().unwrap_or(false)
 }
 
 // The mark of a birth, where marks begin after `base`.
@@ -25,22 +57,25 @@ pub fn marked(base: u64, marks: &[bool], birth: u64) -> bool
     }
 }
 
-fn mark_of(root: u64, base: u64, marks: &[bool], x: Slot) -> bool
-    ensures { result ≡ sweeps.mark_of root base marks.now x }
+// Whether a capability was made from the root, or from one that has a mark.
+fn mark_of(root: u64, base: u64, marks: &[bool], c: &Capability) -> bool
+    ensures { result ≡ sweeps.mark_of root base marks.now c.now }
 {
-    match x {
-        Slot::Full(c) => c.mother == root || marked(base, marks, c.mother),
-        Slot::Empty => false,
-    }
+    c.mother == root || marked(base, marks, c.mother)
 }
 
-// What of the lineage was made from the root, and from those.
-fn marks_of(heap: Global, root: u64, base: u64, lineage: &[Slot]) -> Result<Vec<bool>, Fault>
-    ensures { IfOk result (λ v. v.items ≡ sweeps.marks_from root base [] lineage.now) }
+// A mark for each item, by the marks before it.
+fn scan<T, F: Fn(&[bool], &T) -> bool>(
+    heap: Global,
+    items: &[T],
+    test: F,
+) -> Result<Vec<bool>, Fault>
+    requires { F.IsAlwaysCallable test }
+    ensures { IfOk result (λ marks. (f : List Bool → T → Bool) → ((ms : _) (x : _) (b : _) → F.post test ms x b → b ≡ f ms.now x.now) → marks.items ≡ sweeps.scan f [] items.now) }
 {
     let mut marks = Vec::new(heap);
-    for x in lineage {
-        let mark = mark_of(root, base, marks.as_slice(), *x);
+    for x in items {
+        let mark = test(marks.as_slice(), x);
         marks.push(mark)?;
     }
     Ok(marks)
@@ -66,61 +101,62 @@ impl Object {
     }
 }
 
+// Whether an object was cut from pool `o`, or from one that has a mark.
 fn cut_mark(o: usize, marks: &[bool], x: &Object) -> bool
     ensures { result ≡ sweeps.cut_mark o marks.now (plain.thing x.now) }
 {
-    match x.from() {
-        Some(f) => f == o || flag(marks, f),
-        None => false,
-    }
+    x.from().is_some_and(|f| f == o || flag(marks, f))
 }
 
-// What was cut from pool `o`, and from pools among those.
-fn cut_marks_of(heap: Global, o: usize, objects: &[Object]) -> Result<Vec<bool>, Fault>
-    ensures { IfOk result (λ v. v.items ≡ sweeps.cut_marks_from o [] (map plain.thing objects.now)) }
+fn cuts_of(heap: Global, o: usize, objects: &[Object]) -> Result<Vec<bool>, Fault>
+    ensures { IfOk result (λ v. v.items ≡ sweeps.scan (sweeps.cut_mark o) [] (map plain.thing objects.now)) }
 {
-    let mut marks = Vec::new(heap);
-    for x in objects {
-        let mark = cut_mark(o, marks.as_slice(), x);
-        marks.push(mark)?;
-    }
+    let marks = scan(heap, objects, |marks, x| cut_mark(o, marks, x))?;
     Ok(marks)
 }
 
 impl World {
-    pub fn is_pool(&self, o: usize) -> bool
-        ensures { result ≡ calls.is_pool (plain.object (plain.plain self.now) o) }
-    {
-        match self.get(o) {
-            Some(it) => it.is_pool(),
-            None => false,
-        }
-    }
-
     // The last birth before the first of the lineage.
     pub fn base(&self) -> u64
-        ensures { result ≡ sweeps.base_of (plain.plain self.now) }
+        ensures { result ≡ sweeps.base_of self.now }
     {
         self.births.saturating_sub(self.lineage.len() as u64)
     }
 
-    pub fn marks(&self, root: u64) -> Result<Vec<bool>, Fault>
-        ensures { IfOk result (λ v. v.items ≡ sweeps.marks (plain.plain self.now) root) }
+    // What was made from the root, and from those.
+    pub fn birth_marks(&self, root: u64) -> Result<Vec<bool>, Fault>
+        ensures { IfOk result (λ v. v.items ≡ sweeps.marks self.now root) }
     {
-        marks_of(
-            *self.lineage.allocator(),
-            root,
-            self.base(),
+        let heap = *self.lineage.allocator();
+        let base = self.base();
+        Ok(scan(
+            heap,
             self.lineage.as_slice(),
-        )
+            |marks, c| mark_of(root, base, marks, c),
+        )?)
     }
 
+    // What was cut from pool `o`, and from pools among those; nothing of what is no pool.
     pub fn cut_marks(&self, o: usize) -> Result<Vec<bool>, Fault>
-        ensures { IfOk result (λ v. v.items ≡ sweeps.cut_marks (plain.plain self.now) o) }
+        ensures { IfOk result (λ v. v.items ≡ sweeps.cut_marks self.now o) }
     {
-        if !self.is_pool(o) {
-            return Ok(Vec::new(*self.objects.allocator()));
+        let heap = *self.objects.allocator();
+        if !self.get(o).is_some_and(Object::is_pool) {
+            return Ok(Vec::new(heap));
         }
-        cut_marks_of(*self.objects.allocator(), o, self.objects.as_slice())
+        cuts_of(heap, o, self.objects.as_slice())
+    }
+
+    // What a revoke of a capability takes.
+    pub fn marks_for(&self, c: Capability) -> Result<Marks, Fault>
+        ensures { IfOk result (λ k. k ≡ sweeps.marks_for self.now c) }
+    {
+        let births = self.birth_marks(c.birth)?;
+        let objects = self.cut_marks(c.object)?;
+        Ok(Marks {
+            base: self.base(),
+            births,
+            objects,
+        })
     }
 }

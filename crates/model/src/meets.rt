@@ -1,33 +1,61 @@
 // Send and receive.
-ghost use Rattle.std.specs.Prelude.{◌≡◌, IfOk, OnOk};
+ghost use Rattle.std.specs.Prelude.{◌≡◌, ◌≢◌, IfOk, OnOk, Ok};
+ghost use Rattle.std.specs.Result.{result_ok};
+ghost use Rattle.rights.specs.declared.answers.Answer.TheVariants.{No, Received};
+ghost use Rattle.model.specs.declared.ends.Outcome.TheVariants.{Answered};
+ghost use Rattle.model.specs.declared.objects.State.TheVariants.{Ready};
 ghost use Rattle.model.specs.Calls as calls;
 ghost use Rattle.model.specs.Plain as plain;
 
-use crate::ends::{First, Outcome};
-use crate::objects::{Fault, Object, Slot, State, Thread, Wait, World};
+use crate::ends::{CallError, Outcome, Refused};
+use crate::objects::{Fault, Letter, Object, State, Thread, Wait, World};
 use rights::Answer;
-use rv32::Cpu;
 
-// The core of a thread once an answer comes: one that waited goes on with it.
-pub fn resumed(state: State, mut cpu: Cpu, answer: Answer) -> Cpu
-    ensures { result ≡ calls.then_of state cpu answer }
-{
-    if let State::Waits(_) = state {
-        cpu.resume(answer);
+impl Thread {
+    // The thread, ready to go on: with the answer, if it waited for one.
+    pub fn resumed(self, answer: Answer) -> Thread
+        ensures { result ≡ calls.with_state self Ready (calls.then_of self.state self.cpu answer) }
+    {
+        let mut cpu = self.cpu;
+        if let State::Waits(_) = self.state {
+            cpu.resume(answer);
+        }
+        Thread {
+            state: State::Ready,
+            cpu,
+            ..self
+        }
     }
-    cpu
+}
+
+impl Letter {
+    // Whether it hands on what is in its slot: by the right, and a number that is a slot's.
+    pub fn may_hand_on(self) -> bool
+        ensures { result ≡ calls.may_hand_on self }
+    {
+        self.hands_on && self.slot <= 4095
+    }
+
+    // What the receiver is told.
+    pub fn received(self) -> Answer
+        ensures { result ≡ Received self.badge self.words }
+    {
+        let words = self.words;
+        Answer::Received {
+            badge: self.badge,
+            words,
+        }
+    }
 }
 
 impl Object {
-    pub fn first(&self) -> First
-        ensures { result ≡ calls.first (plain.thing self.now) }
+    // Who waits first, if it is a port.
+    pub fn first(&self) -> Result<Option<Wait>, Refused>
+        ensures { result_ok result ≡ calls.first (plain.thing self.now) }
     {
-        let Object::Port { queue, .. } = self else {
-            return First::NoPort;
-        };
-        match queue.get(0) {
-            Some(x) => First::Somebody(*x),
-            None => First::Nobody,
+        match self {
+            Object::Port { queue, .. } => Ok(queue.front().copied()),
+            _ => Err(Refused),
         }
     }
 
@@ -35,7 +63,7 @@ impl Object {
         ensures { OnOk result (plain.thing self.new ≡ calls.joined (plain.thing self.old) who) }
     {
         if let Object::Port { queue, .. } = self {
-            queue.push(who)?;
+            queue.push_back(who)?;
         }
         Ok(())
     }
@@ -44,9 +72,7 @@ impl Object {
         ensures { plain.thing self.new ≡ calls.served (plain.thing self.old) }
     {
         if let Object::Port { queue, .. } = self {
-            if !queue.is_empty() {
-                queue.remove(0);
-            }
+            queue.pop_front();
         }
     }
 
@@ -54,36 +80,30 @@ impl Object {
         ensures { plain.thing self.new ≡ calls.resumed_one (plain.thing self.old) answer }
     {
         if let Object::Thread(t) = self {
-            *t = Thread {
-                state: State::Ready,
-                cpu: resumed(t.state, t.cpu, answer),
-                ..*t
-            };
+            *t = t.resumed(answer);
         }
     }
 }
 
 impl World {
-    pub fn first(&self, o: usize) -> First
-        ensures { result ≡ calls.first (plain.object (plain.plain self.now) o) }
+    pub fn first(&self, o: usize) -> Result<Option<Wait>, Refused>
+        ensures { result_ok result ≡ calls.first (plain.object self.now o) }
     {
-        match self.get(o) {
-            Some(it) => it.first(),
-            None => First::NoPort,
-        }
+        self.get(o).ok_or(Refused)?.first()
     }
 
-    pub fn join(&mut self, o: usize, who: Wait) -> Result<(), Fault>
-        ensures { OnOk result (plain.plain self.new ≡ plain.with_object (plain.plain self.old) o (calls.joined (plain.object (plain.plain self.old) o) who)) }
+    // One more waits at a port.
+    pub fn wait_at(&mut self, o: usize, who: Wait) -> Result<Outcome, Fault>
+        ensures { IfOk result (λ e. plain.ended self.new e ≡ calls.waiting self.old o who) }
     {
         if let Some(it) = self.get_mut(o) {
             it.join(who)?;
         }
-        Ok(())
+        Ok(Outcome::Waiting(o))
     }
 
     pub fn serve(&mut self, o: usize)
-        ensures { plain.plain self.new ≡ plain.with_object (plain.plain self.old) o (calls.served (plain.object (plain.plain self.old) o)) }
+        ensures { self.new ≡ plain.with_object self.old o (calls.served (plain.object self.old o)) }
     {
         if let Some(it) = self.get_mut(o) {
             it.serve();
@@ -91,107 +111,87 @@ impl World {
     }
 
     pub fn resume(&mut self, t: usize, answer: Answer)
-        ensures { plain.plain self.new ≡ calls.resumed (plain.plain self.old) t answer }
+        ensures { self.new ≡ calls.resumed self.old t answer }
     {
         if let Some(it) = self.get_mut(t) {
             it.resume(answer);
         }
     }
 
-    // Slot `s` of thread `p` goes to slot `d` of thread `q`, if there is something in it and `d` is
-    // there and empty.
+    // What is in slot `s` of thread `p` goes to slot `d` of thread `q`, if it may, there is something
+    // and `d` is there and empty.
     pub fn hand(&mut self, may: bool, p: usize, s: u32, q: usize, d: u32)
-        ensures { plain.plain self.new ≡ calls.handed (plain.plain self.old) may p s q d }
+        ensures { self.new ≡ calls.handed self.old may p s q d }
     {
         let it = self.slot(p, s);
-        if may && !it.is_empty() && self.is_free(q, d) {
+        if may && it.is_some() && self.is_free(q, d) {
             self.put_slot(q, d, it);
-            self.put_slot(p, s, Slot::Empty);
+            self.put_slot(p, s, None);
         }
     }
 
-    pub fn send_at(
-        &mut self,
-        p: usize,
-        o: usize,
-        badge: u32,
-        words: [u32; 4],
-        may: bool,
-        slot: u32,
-    ) -> Result<Outcome, Fault>
-        ensures { IfOk result (λ e. plain.ended (plain.plain self.new) e ≡ calls.send_at (plain.plain self.old) p o badge words may slot) }
+    pub fn send_at(&mut self, o: usize, letter: Letter) -> Result<Outcome, CallError>
+        ensures comes { plain.Comes result (plain.ended self.new) (plain.on self.new No) (calls.send_at self.old o letter) }
+        ensures pinned { result ≢ Ok (Answered No) }
     {
-        match self.first(o) {
-            First::NoPort => Ok(Outcome::Answered(Answer::No)),
-            First::Somebody(Wait::Receiver { thread, slot: into }) => {
+        match self.first(o)? {
+            Some(Wait::Receiver { thread, slot }) => {
                 self.serve(o);
-                self.hand(may && slot <= 4095, p, slot, thread, into);
-                self.resume(thread, Answer::Received { badge, words });
+                self.hand(
+                    letter.may_hand_on(),
+                    letter.thread,
+                    letter.slot,
+                    thread,
+                    slot,
+                );
+                self.resume(thread, letter.received());
                 Ok(Outcome::Answered(Answer::Done))
             }
-            _ => {
-                self.join(
-                    o,
-                    Wait::Sender {
-                        thread: p,
-                        badge,
-                        words,
-                        may,
-                        slot,
-                    },
-                )?;
-                Ok(Outcome::Waiting(o))
-            }
+            _ => Ok(self.wait_at(o, Wait::Sender(letter))?),
         }
     }
 
-    pub fn send(&mut self, p: usize, s: u32, slot: u32, words: [u32; 4]) -> Result<Outcome, Fault>
-        ensures { IfOk result (λ e. plain.ended (plain.plain self.new) e ≡ calls.send (plain.plain self.old) p s slot words) }
+    pub fn send(
+        &mut self,
+        p: usize,
+        s: u32,
+        slot: u32,
+        words: [u32; 4],
+    ) -> Result<Outcome, CallError>
+        ensures comes { plain.Comes result (plain.ended self.new) (plain.on self.new No) (calls.send self.old p s slot words) }
+        ensures pinned { result ≢ Ok (Answered No) }
     {
-        let Slot::Full(c) = self.slot(p, s) else {
-            return Ok(Outcome::Answered(Answer::No));
+        let c = self.writable(p, s)?;
+        let letter = Letter {
+            thread: p,
+            badge: c.badge,
+            words,
+            hands_on: c.rights.hands_on(),
+            slot,
         };
-        if !c.rights.writes() {
-            return Ok(Outcome::Answered(Answer::No));
-        }
-        self.send_at(p, c.object, c.badge, words, c.rights.hands_on(), slot)
+        self.send_at(c.object, letter)
     }
 
-    pub fn receive_at(&mut self, p: usize, o: usize, d: u32) -> Result<Outcome, Fault>
-        ensures { IfOk result (λ e. plain.ended (plain.plain self.new) e ≡ calls.receive_at (plain.plain self.old) p o d) }
+    pub fn receive_at(&mut self, p: usize, o: usize, d: u32) -> Result<Outcome, CallError>
+        ensures comes { plain.Comes result (plain.ended self.new) (plain.on self.new No) (calls.receive_at self.old p o d) }
+        ensures pinned { result ≢ Ok (Answered No) }
     {
-        match self.first(o) {
-            First::NoPort => Ok(Outcome::Answered(Answer::No)),
-            First::Somebody(
-                Wait::Sender {
-                    thread,
-                    badge,
-                    words,
-                    may,
-                    slot,
-                },
-            ) => {
+        match self.first(o)? {
+            Some(Wait::Sender(letter)) => {
                 self.serve(o);
-                self.hand(may && slot <= 4095, thread, slot, p, d);
-                self.resume(thread, Answer::Done);
-                Ok(Outcome::Answered(Answer::Received { badge, words }))
+                self.hand(letter.may_hand_on(), letter.thread, letter.slot, p, d);
+                self.resume(letter.thread, Answer::Done);
+                Ok(Outcome::Answered(letter.received()))
             }
-            _ => {
-                self.join(o, Wait::Receiver { thread: p, slot: d })?;
-                Ok(Outcome::Waiting(o))
-            }
+            _ => Ok(self.wait_at(o, Wait::Receiver { thread: p, slot: d })?),
         }
     }
 
-    pub fn receive(&mut self, p: usize, s: u32, d: u32) -> Result<Outcome, Fault>
-        ensures { IfOk result (λ e. plain.ended (plain.plain self.new) e ≡ calls.receive (plain.plain self.old) p s d) }
+    pub fn receive(&mut self, p: usize, s: u32, d: u32) -> Result<Outcome, CallError>
+        ensures comes { plain.Comes result (plain.ended self.new) (plain.on self.new No) (calls.receive self.old p s d) }
+        ensures pinned { result ≢ Ok (Answered No) }
     {
-        let Slot::Full(c) = self.slot(p, s) else {
-            return Ok(Outcome::Answered(Answer::No));
-        };
-        if !c.rights.reads() {
-            return Ok(Outcome::Answered(Answer::No));
-        }
-        self.receive_at(p, c.object, d)
+        let port = self.readable(p, s)?.object;
+        self.receive_at(p, port, d)
     }
 }

@@ -1,11 +1,17 @@
-// Objects as the world has them. A number names an object for good: no number is used again.
+// Objects as the world has them. A number names an object for good: no number is used again, so objects
+// stand in one Vec by their numbers, and lead to each other by these.
+ghost use Rattle.std.specs.Prelude.{◌≡◌};
+ghost use Rattle.model.specs.declared.objects.Fault.TheVariants.{Memory};
+
 use rights::Rights;
 use rv32::Cpu;
 use std::alloc::{AllocError, AllocFailed};
+use std::collections::VecDeque;
+use std::marker::Model;
 
-// What a slot holds: an object, rights, a badge, its own birth number, and that of the one that it
-// was made from, 0 for none.
-#[derive(Clone, Copy)]
+// What a slot holds, if it is not empty: an object, rights, a badge, its own birth number, and that
+// of the one that it was made from. 0 is no mother and no badge, as the world's numbers have it.
+#[derive(Clone, Copy, Debug, PartialEq, Eq)]
 pub struct Capability {
     pub object: usize,
     pub rights: Rights,
@@ -14,46 +20,48 @@ pub struct Capability {
     pub mother: u64,
 }
 
-#[derive(Clone, Copy)]
-pub enum Slot {
-    Empty,
-    Full(Capability),
-}
-
 // A thread that waits at a port keeps its registers until an answer comes.
-#[derive(Clone, Copy)]
+#[derive(Clone, Copy, Debug, PartialEq, Eq)]
 pub enum State {
     Stopped,
     Ready,
     Waits(usize),
 }
 
-// A table or none, and a space: for each page of addresses a page or none, and whether it may be
-// written.
-#[derive(Clone, Copy)]
+// A page of a space, or none, and whether it may be written. The world keeps that mark also where a
+// page is gone, so this is no Option.
+#[derive(Clone, Copy, Debug, PartialEq, Eq)]
+pub struct Mapping {
+    pub page: Option<usize>,
+    pub writes: bool,
+}
+
+// A table or none, and a space of 64 pages.
+#[derive(Clone, Copy, Debug, PartialEq, Eq)]
 pub struct Thread {
     pub state: State,
     pub cpu: Cpu,
     pub table: Option<usize>,
-    pub pages: [Option<usize>; 64],
-    pub writes: [bool; 64],
+    pub pages: [Mapping; 64],
 }
 
-// Who waits at a port: a sender with badge, words, whether it may hand on, and the slot that it
-// names for that; a receiver with the slot for it.
-#[derive(Clone, Copy)]
+// What a thread sends: a badge and words, and the slot that it names to hand on what is in it. The
+// world keeps the slot's number also where the thread may not hand on, so this is no Option.
+#[derive(Clone, Copy, Debug, PartialEq, Eq)]
+pub struct Letter {
+    pub thread: usize,
+    pub badge: u32,
+    pub words: [u32; 4],
+    pub hands_on: bool,
+    pub slot: u32,
+}
+
+// Who waits at a port: a sender with what it sends, or a receiver with the slot for what is handed
+// on to it.
+#[derive(Clone, Copy, Debug, PartialEq, Eq)]
 pub enum Wait {
-    Sender {
-        thread: usize,
-        badge: u32,
-        words: [u32; 4],
-        may: bool,
-        slot: u32,
-    },
-    Receiver {
-        thread: usize,
-        slot: u32,
-    },
+    Sender(Letter),
+    Receiver { thread: usize, slot: u32 },
 }
 
 // `from` is the pool that an object was cut from; sizes and used parts of pools are in bytes.
@@ -67,11 +75,11 @@ pub enum Object {
     },
     Table {
         from: Option<usize>,
-        slots: Vec<Slot>,
+        slots: Vec<Option<Capability>>,
     },
     Port {
         from: Option<usize>,
-        queue: Vec<Wait>,
+        queue: VecDeque<Wait>,
     },
     Page {
         from: Option<usize>,
@@ -80,7 +88,7 @@ pub enum Object {
     Thread(Thread),
     Line {
         shown: Vec<u8>,
-        heard: Vec<u8>,
+        heard: VecDeque<u8>,
     },
 }
 
@@ -89,23 +97,37 @@ pub enum Object {
 pub struct World {
     pub objects: Vec<Object>,
     pub births: u64,
-    pub lineage: Vec<Slot>,
+    pub lineage: Vec<Capability>,
+}
+
+// A world is the lists of what its vectors hold.
+impl Model for World {
+    ghost use Rattle.std.specs.Prelude.{map, vec_items};
+    ghost use Rattle.model.specs.Plain.{Whole, thing};
+
+    ghost Value = { Whole };
+
+    ghost view = { λ v. record { things = map thing (vec_items v.objects); births = v.births; lineage = vec_items v.lineage } };
 }
 
 // Memory is used up, or numbers are.
-#[derive(Clone, Copy, Debug)]
+#[derive(Clone, Copy, Debug, PartialEq, Eq)]
 pub enum Fault {
     Memory,
     Numbers,
 }
 
 impl From<AllocError> for Fault {
+    ghost from_gives = { λ _ e. e ≡ Memory };
+
     fn from(_e: AllocError) -> Fault {
         Fault::Memory
     }
 }
 
 impl<T: Drop> From<AllocFailed<T>> for Fault {
+    ghost from_gives = { λ _ e. e ≡ Memory };
+
     fn from(_e: AllocFailed<T>) -> Fault {
         Fault::Memory
     }

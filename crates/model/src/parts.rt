@@ -1,11 +1,12 @@
 // What a call does to one object.
-ghost use Rattle.std.specs.Prelude.{◌≡◌, suc, ◌&&◌, IfOk, OnOk};
-ghost use Rattle.std.specs.Option.{option_map};
+ghost use Rattle.std.specs.Prelude.{◌≡◌, suc, ◌&&◌, OnOk};
+ghost use Rattle.std.specs.Option.{is_none, option_map};
+ghost use Rattle.rights.specs.declared.answers.Answer.TheVariants.{No, Done};
 ghost use Rattle.model.specs.Calls as calls;
 ghost use Rattle.model.specs.Plain as plain;
 
-use crate::objects::{Fault, Object, Slot, World};
-use rights::Answer;
+use crate::ends::{CallError, Refused};
+use crate::objects::{Capability, Fault, Object, World};
 
 impl Object {
     pub fn table(&self) -> Option<usize>
@@ -17,15 +18,12 @@ impl Object {
         }
     }
 
-    pub fn slot(&self, s: u32) -> Slot
+    pub fn slot(&self, s: u32) -> Option<Capability>
         ensures { result ≡ plain.slot_at (plain.thing self.now) s }
     {
-        let Object::Table { slots, .. } = self else {
-            return Slot::Empty;
-        };
-        match slots.get(s as usize) {
-            Some(x) => *x,
-            None => Slot::Empty,
+        match self {
+            Object::Table { slots, .. } => slots.get(s as usize).copied().flatten(),
+            _ => None,
         }
     }
 
@@ -38,24 +36,31 @@ impl Object {
         }
     }
 
-    pub fn put_slot(&mut self, s: u32, x: Slot)
+    // Whether the slot is there and empty.
+    pub fn is_free(&self, s: u32) -> bool
+        ensures { result ≡ (plain.has_at (plain.thing self.now) s && is_none (plain.slot_at (plain.thing self.now) s)) }
+    {
+        self.has_slot(s) && self.slot(s).is_none()
+    }
+
+    pub fn put_slot(&mut self, s: u32, x: Option<Capability>)
         ensures { plain.thing self.new ≡ plain.put_at (plain.thing self.old) s x }
     {
         if let Object::Table { slots, .. } = self {
-            if (s as usize) < slots.len() {
-                slots[s as usize] = x;
+            if let Some(slot) = slots.get_mut(s as usize) {
+                *slot = x;
             }
         }
     }
 
-    pub fn say(&mut self, b: u8) -> Result<Answer, Fault>
-        ensures { IfOk result (λ a. plain.left (plain.thing self.new) a ≡ calls.says b (plain.thing self.old)) }
+    pub fn say(&mut self, b: u8) -> Result<(), CallError>
+        ensures { plain.Comes result (λ _. plain.left (plain.thing self.new) Done) (plain.left (plain.thing self.new) No) (calls.says b (plain.thing self.old)) }
     {
         let Object::Line { shown, .. } = self else {
-            return Ok(Answer::No);
+            return Err(CallError::Refused);
         };
         shown.push(b)?;
-        Ok(Answer::Done)
+        Ok(())
     }
 
     pub fn come_in(&mut self, b: u8) -> Result<(), Fault>
@@ -63,88 +68,50 @@ impl Object {
     {
         if let Object::Line { heard, .. } = self {
             if heard.len() < 1024 {
-                heard.push(b)?;
+                heard.push_back(b)?;
             }
         }
         Ok(())
     }
 
-    pub fn hear(&mut self) -> Answer
-        ensures { plain.left (plain.thing self.new) result ≡ calls.hears (plain.thing self.old) }
+    pub fn hear(&mut self) -> Result<u8, Refused>
+        ensures { plain.left (plain.thing self.new) (plain.heard_or_no result) ≡ calls.hears (plain.thing self.old) }
     {
         let Object::Line { heard, .. } = self else {
-            return Answer::No;
+            return Err(Refused);
         };
-        if heard.is_empty() {
-            return Answer::No;
-        }
-        Answer::Heard(heard.remove(0))
+        heard.pop_front().ok_or(Refused)
     }
 }
 
-impl Slot {
-    pub fn is_empty(self) -> bool
-        ensures { result ≡ plain.is_empty self }
-    {
-        matches!(self, Slot::Empty)
-    }
-}
-
+// Readers by an object's number. Each says what a number that names nothing gives. One that lends the
+// object for any number was tried, but no Gone can be lent then, since its type owns memory.
 impl World {
     pub fn get(&self, o: usize) -> Option<&Object>
-        ensures { plain.found (option_map (λ x. x.now) result) ≡ plain.object (plain.plain self.now) o }
+        ensures { plain.found (option_map (λ x. x.now) result) ≡ plain.object self.now o }
     {
         self.objects.get(o)
     }
 
-    pub fn slot(&self, p: usize, s: u32) -> Slot
-        ensures { result ≡ plain.slot (plain.plain self.now) p s }
-    {
-        let Some(thread) = self.get(p) else {
-            return Slot::Empty;
-        };
-        let Some(t) = thread.table() else {
-            return Slot::Empty;
-        };
-        match self.get(t) {
-            Some(it) => it.slot(s),
-            None => Slot::Empty,
-        }
-    }
-
     pub fn table_of(&self, p: usize) -> Option<usize>
-        ensures { result ≡ plain.table_of (plain.object (plain.plain self.now) p) }
+        ensures { result ≡ plain.table_of (plain.object self.now p) }
     {
-        match self.get(p) {
-            Some(it) => it.table(),
-            None => None,
-        }
+        self.get(p)?.table()
     }
 
-    pub fn slot_in(&self, t: usize, s: u32) -> Slot
-        ensures { result ≡ plain.slot_at (plain.object (plain.plain self.now) t) s }
+    pub fn slot(&self, p: usize, s: u32) -> Option<Capability>
+        ensures { result ≡ plain.slot self.now p s }
     {
-        match self.get(t) {
-            Some(it) => it.slot(s),
-            None => Slot::Empty,
-        }
-    }
-
-    pub fn has_slot_in(&self, t: usize, s: u32) -> bool
-        ensures { result ≡ plain.has_at (plain.object (plain.plain self.now) t) s }
-    {
-        match self.get(t) {
-            Some(it) => it.has_slot(s),
-            None => false,
-        }
+        let t = self.table_of(p)?;
+        self.get(t)?.slot(s)
     }
 
     pub fn is_free(&self, p: usize, s: u32) -> bool
-        ensures { result ≡ plain.free (plain.plain self.now) p s }
+        ensures { result ≡ plain.free self.now p s }
     {
-        match self.table_of(p) {
-            Some(t) => self.has_slot_in(t, s) && self.slot_in(t, s).is_empty(),
-            None => false,
-        }
+        let Some(t) = self.table_of(p) else {
+            return false;
+        };
+        self.get(t).is_some_and(|it| it.is_free(s))
     }
 }

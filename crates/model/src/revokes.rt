@@ -1,61 +1,47 @@
 // Revoke: what was made from a capability goes, and for a pool all that was cut from it.
-ghost use Rattle.std.specs.Prelude.{◌≡◌, map, IfOk, OnOk};
+ghost use Rattle.std.specs.Prelude.{◌≡◌, map, OnOk};
+ghost use Rattle.rights.specs.declared.answers.Answer.TheVariants.{No, Done};
 ghost use Rattle.model.specs.Plain as plain;
 ghost use Rattle.model.specs.Sweeps as sweeps;
 
-use crate::objects::{Capability, Fault, Object, Slot, World};
-use rights::Answer;
+use crate::ends::CallError;
+use crate::marks::Marks;
+use crate::objects::{Capability, Fault, Object, World};
 
-fn sweep_all(
-    all: &mut Vec<Object>,
-    base: u64,
-    births: &[bool],
-    objects: &[bool],
-) -> Result<(), Fault>
-    ensures { OnOk result (map plain.thing all.new.items ≡ sweeps.at_each (sweeps.kept_at base births.now objects.now) 0 (map plain.thing all.old.items)) }
+fn sweep_all(all: &mut Vec<Object>, marks: &Marks)
+    ensures { map plain.thing all.new.items ≡ sweeps.at_each (sweeps.kept_at marks.now) 0 (map plain.thing all.old.items) }
 {
-    for i in 0..all.len() {
-        all[i].sweep_at(base, births, objects, i)?;
+    for (i, x) in all.iter_mut().enumerate() {
+        x.sweep_at(marks, i);
     }
-    Ok(())
 }
 
 impl World {
-    fn sweep(&mut self, base: u64, births: &[bool], objects: &[bool]) -> Result<(), Fault>
-        ensures { OnOk result (plain.plain self.new ≡ sweeps.swept (plain.plain self.old) base births.now objects.now) }
+    fn sweep(&mut self, marks: &Marks)
+        ensures { self.new ≡ sweeps.swept self.old marks.now }
     {
-        sweep_all(&mut self.objects, base, births, objects)
-    }
-
-    fn refill(&mut self, o: usize)
-        ensures { plain.plain self.new ≡ plain.with_object (plain.plain self.old) o (sweeps.refilled (plain.object (plain.plain self.old) o)) }
-    {
-        if let Some(it) = self.get_mut(o) {
-            it.refill();
-        }
+        sweep_all(&mut self.objects, marks);
     }
 
     fn revoke_all(&mut self, c: Capability) -> Result<(), Fault>
-        ensures { OnOk result (plain.plain self.new ≡ sweeps.revoked (plain.plain self.old) c) }
+        ensures { OnOk result (self.new ≡ sweeps.revoked self.old c) }
     {
-        let base = self.base();
-        let births = self.marks(c.birth)?;
-        let objects = self.cut_marks(c.object)?;
-        self.sweep(base, births.as_slice(), objects.as_slice())?;
-        self.refill(c.object);
+        let marks = self.marks_for(c)?;
+        self.sweep(&marks);
+        if let Some(it) = self.get_mut(c.object) {
+            it.refill();
+        }
         Ok(())
     }
 
-    pub fn revoke(&mut self, p: usize, s: u32) -> Result<Answer, Fault>
-        ensures { IfOk result (λ a. plain.on (plain.plain self.new) a ≡ sweeps.revoke (plain.plain self.old) p s) }
+    pub fn revoke(&mut self, p: usize, s: u32) -> Result<(), CallError>
+        ensures { plain.Comes result (λ _. plain.on self.new Done) (plain.on self.new No) (sweeps.revoke self.old p s) }
     {
-        let Slot::Full(c) = self.slot(p, s) else {
-            return Ok(Answer::No);
-        };
-        if self.is_pool(c.object) && !c.rights.writes() {
-            return Ok(Answer::No);
+        let c = self.held(p, s)?;
+        if self.get(c.object).is_some_and(Object::is_pool) && !c.rights.writes() {
+            return Err(CallError::Refused);
         }
         self.revoke_all(c)?;
-        Ok(Answer::Done)
+        Ok(())
     }
 }
