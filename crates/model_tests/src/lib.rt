@@ -1,0 +1,7 @@
+// Rows of calls, carried out by the world as a program: what comes back, and what is left.
+#![tactic(auto)]
+
+#[cfg(test)]
+mod rows;
+#[cfg(test)]
+mod start;
