@@ -1,123 +1,105 @@
 // Images, written field by field, low bytes first.
-ghost use Rattle.std.specs.Prelude.{◌≡◌, ◌≤◌, IfOk, vec_len};
+ghost use Rattle.std.specs.Prelude.{◌≡◌, ◌++◌, ◌∷◌, [], List, ℕ, OnOk};
+ghost use Rattle.image_tests.specs.Written as written;
 
 use rights::Kind;
 use std::alloc::{AllocError, Global};
+use std::marker::Model;
 
+// An image as far as it is written: a clause sees its bytes.
 #[derive(Drop)]
 pub struct ImageBuilder {
     bytes: Vec<u8>,
-    // Whether some byte found no memory, which is told at the end.
-    lost: bool,
+}
+
+impl Model for ImageBuilder {
+    ghost Value = { List ℕ };
+
+    ghost view = { λ image. image.bytes.items };
 }
 
 impl ImageBuilder {
     pub fn new(heap: Global) -> ImageBuilder
-        ensures { vec_len result.bytes ≡ 0 }
+        ensures { result ≡ [] }
     {
         ImageBuilder {
             bytes: Vec::new(heap),
-            lost: false,
         }
     }
 
-    // What was written; an image has six bytes at least.
-    pub fn finish(self) -> Result<Vec<u8>, AllocError>
-        ensures { IfOk result (λ v. 6 ≤ vec_len v) }
+    // What was written.
+    pub fn finish(self) -> Vec<u8>
+        ensures { result.items ≡ self }
     {
-        if self.lost || self.bytes.len() < 6 {
-            return Err(AllocError);
-        }
-        Ok(self.bytes)
+        self.bytes
     }
 
-    fn bytes(&mut self, more: &[u8])
-        ensures { vec_len self.old.bytes ≤ vec_len self.new.bytes }
+    fn write(&mut self, bytes: &[u8]) -> Result<(), AllocError>
+        ensures { OnOk result (self.new ≡ self.old ++ bytes.now) }
     {
-        if self.bytes.extend_from_slice(more).is_err() {
-            self.lost = true;
-        }
-    }
-
-    pub fn byte(&mut self, value: u8)
-        ensures { vec_len self.old.bytes ≤ vec_len self.new.bytes }
-    {
-        self.bytes(&[value]);
-    }
-
-    pub fn two(&mut self, value: u16)
-        ensures { vec_len self.old.bytes ≤ vec_len self.new.bytes }
-    {
-        self.bytes(&value.to_le_bytes());
-    }
-
-    pub fn four(&mut self, value: u32)
-        ensures { vec_len self.old.bytes ≤ vec_len self.new.bytes }
-    {
-        self.bytes(&value.to_le_bytes());
+        self.bytes.extend_from_slice(bytes)
     }
 
     // Some bytes of 0: empty slots, a blank page, a thread with nothing.
-    pub fn zeros(&mut self, count: usize)
-        ensures { vec_len self.old.bytes ≤ vec_len self.new.bytes }
+    #[tactic(auto, unfolding(crate::specs::Written::zeros))]
+    pub fn zeros(&mut self, count: usize) -> Result<(), AllocError>
+        ensures { OnOk result (self.new ≡ self.old ++ written.zeros count) }
     {
         let end = self.bytes.len().saturating_add(count);
-        if self.bytes.resize(end, 0).is_err() {
-            self.lost = true;
-        }
+        self.bytes.resize(end, 0)
     }
 
     // "HOLD" and the number of objects.
-    pub fn begin(&mut self, objects: u16)
-        ensures { vec_len self.old.bytes ≤ vec_len self.new.bytes }
+    pub fn begin(&mut self, objects: u16) -> Result<(), AllocError>
+        ensures { OnOk result (self.new ≡ self.old ++ written.start objects) }
     {
-        self.bytes(b"HOLD");
-        self.two(objects);
+        self.write(b"HOLD")?;
+        self.write(&objects.to_le_bytes())
     }
 
-    pub fn header(&mut self, kind: Kind, size: u16)
-        ensures { vec_len self.old.bytes ≤ vec_len self.new.bytes }
+    pub fn header(&mut self, kind: Kind, size: u16) -> Result<(), AllocError>
+        ensures { OnOk result (self.new ≡ self.old ++ written.header kind size) }
     {
-        self.byte(u8::from(kind));
-        self.two(size);
+        let [low, high] = size.to_le_bytes();
+        self.write(&[u8::from(kind), low, high])
     }
 
     // A slot, with the number of an object plus 1, or 0.
-    pub fn slot(&mut self, object: u16, rights: u8, badge: u32)
-        ensures { vec_len self.old.bytes ≤ vec_len self.new.bytes }
+    pub fn slot(&mut self, object: u16, rights: u8, badge: u32) -> Result<(), AllocError>
+        ensures { OnOk result (self.new ≡ self.old ++ written.slot object rights badge) }
     {
-        self.two(object);
-        self.byte(rights);
-        self.four(badge);
+        self.write(&object.to_le_bytes())?;
+        self.write(&[rights])?;
+        self.write(&badge.to_le_bytes())
     }
 
     // A page with its first and its last byte.
-    pub fn page(&mut self, first: u8, last: u8)
-        ensures { vec_len self.old.bytes ≤ vec_len self.new.bytes }
+    pub fn page(&mut self, first: u8, last: u8) -> Result<(), AllocError>
+        ensures { OnOk result (self.new ≡ self.old ++ written.page first last) }
     {
-        self.byte(first);
-        self.zeros(4094);
-        self.byte(last);
+        self.write(&[first])?;
+        self.zeros(4094)?;
+        self.write(&[last])
     }
 
     // One page of a space, with the number of a page plus 1, or 0.
-    fn mapping(&mut self, page: u16, mark: u8)
-        ensures { vec_len self.old.bytes ≤ vec_len self.new.bytes }
+    fn mapping(&mut self, page: u16, mark: u8) -> Result<(), AllocError>
+        ensures { OnOk result (self.new ≡ self.old ++ written.mapping page mark) }
     {
-        self.two(page);
-        self.byte(mark);
+        self.write(&page.to_le_bytes())?;
+        self.write(&[mark])
     }
 
     // A thread that is ready, with a page at the first and the last place of its space; the 62
     // places between are free.
-    pub fn thread(&mut self, table: u16, page: u16, pc: u32)
-        ensures { vec_len self.old.bytes ≤ vec_len self.new.bytes }
+    pub fn thread(&mut self, table: u16, page: u16, pc: u32) -> Result<(), AllocError>
+        ensures { OnOk result (self.new ≡ self.old ++ written.thread table page pc) }
     {
-        self.two(table);
-        self.mapping(page, 1);
-        self.zeros(3 * 62);
-        self.mapping(page, 0);
-        self.byte(1);
-        self.four(pc);
+        self.write(&table.to_le_bytes())?;
+        self.mapping(page, 1)?;
+        self.zeros(3 * 62)?;
+        self.mapping(page, 0)?;
+        self.write(&[1])?;
+        self.write(&pc.to_le_bytes())
     }
 }

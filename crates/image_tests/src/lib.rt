@@ -2,7 +2,6 @@
 // the format; no test asks the code under test where something lies.
 #![tactic(auto)]
 
-#[cfg(test)]
 mod builder;
 #[cfg(test)]
 mod cuts;
@@ -10,7 +9,6 @@ mod cuts;
 mod faults;
 #[cfg(test)]
 mod fits;
-#[cfg(test)]
 mod images;
 #[cfg(test)]
 mod limits;

@@ -1,7 +1,7 @@
 // Files that are read up to a limit, and both files of a run.
 use crate::faults::put;
 use crate::images::{LENGTH, Objects, blank, sample};
-use crate::outcome::{Answers, TAKEN, Told};
+use crate::outcome::{TAKEN, Told, told};
 use image::{Inputs, Kinds, Part, check_events_part, check_part};
 use rights::Kind;
 use std::test::Fail;
@@ -19,7 +19,11 @@ const READ: &[(&str, usize, usize, bool)] = &[
 fn reads(rt: HostRuntime) -> Result<(), Fail> {
     for &(path, limit, length, more) in READ {
         let part = Part::read(&rt, path, limit)?;
-        assert_eq!(rt; (part.bytes.len(), part.more), (length, more));
+        assert_eq!(rt;
+            (part.bytes.len(), part.more),
+            (length, more),
+            "{limit} bytes of {path}"
+        );
     }
     assert_eq!(rt; Part::read(&rt, "/dev/null/none", 1).is_err(), true);
     Ok(())
@@ -30,10 +34,10 @@ const IMAGES: &[(usize, u8, &[u8], usize, u32, Told)] = &[
     // The whole file.
     (0, b'H', &[], LENGTH + 1, 4, TAKEN),
     (0, b'H', &[], LENGTH, 4, TAKEN),
-    (0, b'H', &[], LENGTH, 3, (5, 4)),
-    (0, b'H', &[], LENGTH, 0, (5, 4)),
-    (0, b'H', &[0], LENGTH + 1, 0, (1, LENGTH)),
-    (0, b'H', &[255, 0], LENGTH + 2, 4, (1, LENGTH)),
+    (0, b'H', &[], LENGTH, 3, Err((5, 4))),
+    (0, b'H', &[], LENGTH, 0, Err((5, 4))),
+    (0, b'H', &[0], LENGTH + 1, 0, Err((1, LENGTH))),
+    (0, b'H', &[255, 0], LENGTH + 2, 4, Err((1, LENGTH))),
     // A slot may name nothing or an object of any kind, and have any rights.
     (27, 0, &[], LENGTH, 4, TAKEN),
     (27, 1, &[], LENGTH, 4, TAKEN),
@@ -46,34 +50,37 @@ const IMAGES: &[(usize, u8, &[u8], usize, u32, Told)] = &[
     (8247, 1, &[], LENGTH, 4, TAKEN),
     (8434, 0, &[], LENGTH, 4, TAKEN),
     // What is fine up to the limit, or cut there.
-    (0, b'H', &[0], LENGTH, 4, (1, LENGTH)),
-    (0, b'H', &[0], LENGTH, 3, (1, LENGTH)),
-    (0, b'H', &[0], LENGTH, 0, (1, LENGTH)),
-    (0, b'H', &[], 100, 4, (1, 100)),
-    (0, b'h', &[], 0, 4, (1, 0)),
-    (27, 8, &[], 28, 4, (1, 28)),
-    (29, 8, &[], 29, 4, (1, 29)),
+    (0, b'H', &[0], LENGTH, 4, Err((1, LENGTH))),
+    (0, b'H', &[0], LENGTH, 3, Err((1, LENGTH))),
+    (0, b'H', &[0], LENGTH, 0, Err((1, LENGTH))),
+    (0, b'H', &[], 100, 4, Err((1, 100))),
+    (0, b'h', &[], 0, 4, Err((1, 0))),
+    (27, 8, &[], 28, 4, Err((1, 28))),
+    (29, 8, &[], 29, 4, Err((1, 29))),
     // Faults wholly before the limit.
-    (0, b'h', &[], 1, 4, (2, 0)),
-    (27, 8, &[], 29, 4, (4, 27)),
-    (29, 8, &[], 30, 4, (3, 29)),
-    (8633, 2, &[], 8634, 0, (3, 8633)),
-    (8633, 2, &[0], LENGTH, 0, (3, 8633)),
-    (0, b'H', &[0, 0], LENGTH + 1, 0, (1, LENGTH)),
+    (0, b'h', &[], 1, 4, Err((2, 0))),
+    (27, 8, &[], 29, 4, Err((4, 27))),
+    (29, 8, &[], 30, 4, Err((3, 29))),
+    (8633, 2, &[], 8634, 0, Err((3, 8633))),
+    (8633, 2, &[0], LENGTH, 0, Err((3, 8633))),
+    (0, b'H', &[0, 0], LENGTH + 1, 0, Err((1, LENGTH))),
 ];
 
 #[test]
 fn part_of_image(rt: HostRuntime) -> Result<(), Fail> {
-    let mut answers = Answers::new();
     for &(at, byte, more, limit, frames, expected) in IMAGES {
         let mut image = sample(rt.alloc())?;
         put(&mut image, at, byte);
         image.extend_from_slice(more)?;
         let part = Part::first(limit, image);
-        let result = check_part(Kinds::BUILT, &part.bytes, part.more, frames);
-        answers.expect(result, expected);
+        let answer = told(check_part(Kinds::BUILT, &part.bytes, part.more, frames));
+        assert_eq!(rt;
+            answer,
+            expected,
+            "{byte} at {at}, {more:?} more, {limit}, {frames} frames"
+        );
     }
-    answers.verdict()
+    Ok(())
 }
 
 // Rows that go on beyond what was read, and the place that is told.
@@ -105,29 +112,28 @@ const ROWS: &[(&[u8], usize)] = &[
 #[test]
 fn part_of_events(rt: HostRuntime) -> Result<(), Fail> {
     let image = sample(rt.alloc())?;
-    let mut answers = Answers::new();
     for &(row, place) in ROWS {
-        answers.expect(check_events_part(&image, row, true), (6, place));
+        let answer = told(check_events_part(&image, row, true));
+        assert_eq!(rt; answer, Err((6, place)), "{row:?}");
     }
-    answers.verdict()
+    Ok(())
 }
 
 // The rights of a slot, whether the image goes on, the frames, the events and whether they go on.
 const FILES: &[(u8, bool, u32, &[u8], bool, Told)] = &[
-    (8, true, 3, &[2], true, (3, 29)),
-    (8, false, 4, &[], false, (3, 29)),
-    (7, true, 3, &[2], true, (1, LENGTH)),
-    (7, false, 3, &[2], true, (5, 4)),
-    (7, false, 4, &[2], true, (6, 0)),
-    (7, false, 4, &[0, 2], true, (6, 2)),
-    (7, false, 4, &[0, 2], false, (6, 0)),
+    (8, true, 3, &[2], true, Err((3, 29))),
+    (8, false, 4, &[], false, Err((3, 29))),
+    (7, true, 3, &[2], true, Err((1, LENGTH))),
+    (7, false, 3, &[2], true, Err((5, 4))),
+    (7, false, 4, &[2], true, Err((6, 0))),
+    (7, false, 4, &[0, 2], true, Err((6, 2))),
+    (7, false, 4, &[0, 2], false, Err((6, 0))),
     (7, false, 4, &[0, 2, 0], false, TAKEN),
 ];
 
 // First what is wrong with the image, in the order of its bytes, then its frames, then the events.
 #[test]
 fn both_files(rt: HostRuntime) -> Result<(), Fail> {
-    let mut answers = Answers::new();
     for &(rights, goes_on, frames, row, more, expected) in FILES {
         let mut bytes = sample(rt.alloc())?;
         put(&mut bytes, 29, rights);
@@ -135,12 +141,17 @@ fn both_files(rt: HostRuntime) -> Result<(), Fail> {
             bytes,
             more: goes_on,
         };
-        let bytes = Vec::from_slice(rt.alloc(), row)?;
+        let bytes = row.to_vec(rt.alloc())?;
         let events = Part { bytes, more };
         let inputs = Inputs { image, events };
-        answers.expect(inputs.check_with(Kinds::BUILT, frames), expected);
+        let answer = told(inputs.check_with(Kinds::BUILT, frames));
+        assert_eq!(rt;
+            answer,
+            expected,
+            "rights {rights}, {frames} frames, {row:?}"
+        );
     }
-    answers.verdict()
+    Ok(())
 }
 
 // An image of as many bytes as are looked at, 6 + 3 × 517 + 4 × 199 + 511 × 4,096 + 249 × 7, that
@@ -156,26 +167,30 @@ const LONGEST: &[Objects] = &[
 // the lent frames.
 const LONG: &[(&[u8], &[u8], u32, Told)] = &[
     (&[], &[1, 4, 0, 65], 515, TAKEN),
-    (&[], &[1, 4, 0, 65], 514, (5, 515)),
-    (&[], &[1, 4, 0, 65, 0], 515, (6, 1_048_576)),
-    (&[], &[1, 4, 0, 65, 2], 514, (5, 515)),
-    (&[], &[0, 0, 0, 2], 515, (6, 1_048_575)),
-    (&[], &[0, 0, 0, 1, 4, 0, 65], 515, (6, 1_048_576)),
-    (&[0], &[2], 514, (1, 2_097_152)),
+    (&[], &[1, 4, 0, 65], 514, Err((5, 515))),
+    (&[], &[1, 4, 0, 65, 0], 515, Err((6, 1_048_576))),
+    (&[], &[1, 4, 0, 65, 2], 514, Err((5, 515))),
+    (&[], &[0, 0, 0, 2], 515, Err((6, 1_048_575))),
+    (&[], &[0, 0, 0, 1, 4, 0, 65], 515, Err((6, 1_048_576))),
+    (&[0], &[2], 514, Err((1, 2_097_152))),
 ];
 
 #[test]
 fn longest_files(rt: HostRuntime) -> Result<(), Fail> {
-    let mut answers = Answers::new();
     for &(more, last, frames, expected) in LONG {
-        let mut image = blank(rt.alloc(), 517, LONGEST)?;
+        let mut image = blank(rt.alloc(), LONGEST)?;
         image.extend_from_slice(more)?;
         let mut events = vec![in rt.alloc(); 0; 1_048_572]?;
         events.extend_from_slice(last)?;
         let image = Part::first(2_097_152, image);
         let events = Part::first(1_048_576, events);
         let inputs = Inputs { image, events };
-        answers.expect(inputs.check_with(Kinds::BUILT, frames), expected);
+        let answer = told(inputs.check_with(Kinds::BUILT, frames));
+        assert_eq!(rt;
+            answer,
+            expected,
+            "{more:?} more, {last:?} last, {frames} frames"
+        );
     }
-    answers.verdict()
+    Ok(())
 }

@@ -1,8 +1,8 @@
 // Refusal 6: rows of events. In the sample objects 2 and 6 are threads and 3 is a line.
-ghost use Rattle.std.specs.Prelude.{◌≤◌, IfOk, vec_len};
+ghost use Rattle.std.specs.Prelude.{◌≡◌, IfOk, vec_len};
 
 use crate::images::sample;
-use crate::outcome::{Answers, TAKEN};
+use crate::outcome::{TAKEN, told};
 use image::check_events;
 use std::alloc::{AllocError, Global};
 use std::test::Fail;
@@ -47,13 +47,12 @@ const EVENTS: &[(&[u8], bool)] = &[
 
 // A byte for the line and an instruction of a thread, a hundred times: 700 bytes.
 fn many_events(heap: Global) -> Result<Vec<u8>, AllocError>
-    ensures { IfOk result (λ v. vec_len v ≤ 700) }
+    ensures { IfOk result (λ v. vec_len v ≡ 700) }
 {
     let mut row = Vec::new(heap);
-    for _turn in 0..100 {
+    for _ in 0..100u8 {
         row.extend_from_slice(&[1, 3, 0, 2, 0, 2, 0])?;
     }
-    row.truncate(700);
     Ok(row)
 }
 
@@ -62,15 +61,14 @@ fn many_events(heap: Global) -> Result<Vec<u8>, AllocError>
 fn events(rt: HostRuntime) -> Result<(), Fail> {
     let image = sample(rt.alloc())?;
     let many = many_events(rt.alloc())?;
-    let mut answers = Answers::new();
     for &(events, right) in EVENTS {
         for before in [0, 4, 7, 693, 697, 700] {
-            let mut row = many.clone()?;
-            row.truncate(before);
+            let mut row = many[..before].to_vec(rt.alloc())?;
             row.extend_from_slice(events)?;
-            let expected = if right { TAKEN } else { (6, before) };
-            answers.expect(check_events(&image, &row), expected);
+            let expected = if right { TAKEN } else { Err((6, before)) };
+            let answer = told(check_events(&image, &row));
+            assert_eq!(rt; answer, expected, "{events:?} after {before} bytes");
         }
     }
-    answers.verdict()
+    Ok(())
 }

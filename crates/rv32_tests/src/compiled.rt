@@ -2,9 +2,10 @@
 // main returns, in a0 at the EBREAK after it.
 use crate::ram::Ram;
 use crate::ticks::tick;
-use rv32::{Cpu, Step, Width, act};
+use rv32::{Cpu, Step};
+use std::ops::ControlFlow;
 
-static CRC: [u32; 29] = [
+static CRC: &[u32] = &[
     0x0000_1137,
     0x0000_0097,
     0x00c0_80e7,
@@ -36,7 +37,7 @@ static CRC: [u32; 29] = [
     0x0000_0039,
 ];
 
-static QUEENS: [u32; 58] = [
+static QUEENS: &[u32] = &[
     0x0000_1137,
     0x0000_0097,
     0x00c0_80e7,
@@ -97,7 +98,7 @@ static QUEENS: [u32; 58] = [
     0x0000_8067,
 ];
 
-static SORT: [u32; 115] = [
+static SORT: &[u32] = &[
     0x0000_1137,
     0x0000_0097,
     0x00c0_80e7,
@@ -215,7 +216,7 @@ static SORT: [u32; 115] = [
     0x8000_0000,
 ];
 
-static DIGITS: [u32; 97] = [
+static DIGITS: &[u32] = &[
     0x0000_1137,
     0x0000_0097,
     0x03c0_80e7,
@@ -317,26 +318,21 @@ static DIGITS: [u32; 97] = [
 
 #[test]
 fn runs(rt: HostRuntime) {
-    let programs: [(&[u32], u32); 4] = [
-        (&CRC, 0xcbf4_3926),
-        (&QUEENS, 4),
-        (&SORT, 0xc6f6_b293),
-        (&DIGITS, 0x8000_0000),
+    let programs: [(&str, &[u32], u32); 4] = [
+        ("crc", CRC, 0xcbf4_3926),
+        ("queens", QUEENS, 4),
+        ("sort", SORT, 0xc6f6_b293),
+        ("digits", DIGITS, 0x8000_0000),
     ];
-    for (words, expected) in programs {
-        let mut ram = Ram { bytes: [0; 4096] };
-        let mut at = 0u32;
-        for word in words {
-            ram.store(at, Width::Word, *word);
-            at = at.wrapping_add(4);
+    for (name, words, expected) in programs {
+        let mut ram = Ram::blank();
+        let (places, _) = ram.bytes.as_chunks_mut::<4>();
+        for (place, word) in places.iter_mut().zip(words) {
+            *place = word.to_le_bytes();
         }
         let mut cpu = Cpu::fresh(0);
-        for _ in 0..100_000u32 {
-            if !tick(&mut cpu, &mut ram) {
-                break;
-            }
-        }
-        assert_eq!(rt; (cpu.get(10), cpu.pc), (expected, 12));
-        assert!(rt; matches!(act(&cpu, &ram), Step::Stop));
+        let halted = (0..100_000u32).try_for_each(|_| tick(&mut cpu, &mut ram));
+        assert_eq!(rt; halted, ControlFlow::Break(Step::Stop), "{name}");
+        assert_eq!(rt; (cpu.get(10), cpu.pc), (expected, 12), "{name}");
     }
 }

@@ -1,14 +1,14 @@
 // Each instruction at its corner cases. The words are an assembler's; the results are worked out by hand
 // from what the specification says.
 use crate::ram::Ram;
-use crate::ticks::{outcome, started, tick};
+use crate::ticks::{started, stepped, tick};
 use rights::{Answer, Call};
 use rv32::{Cpu, Memory, Step, act};
-use std::test::Fail;
+use std::ops::ControlFlow;
 
 // An instruction at pc 16, x1, x2, and what x3 and the pc are then. At 0x100 are the bytes
 // 80 7f ff 01 00 80 34 12.
-static STEPS: [(u32, u32, u32, u32, u32); 127] = [
+static STEPS: &[(u32, u32, u32, u32, u32)] = &[
     // add x3, x1, x2
     (0x0020_81b3, 1, 2, 3, 20),
     (0x0020_81b3, 0xffff_ffff, 1, 0, 20),
@@ -210,18 +210,22 @@ static STEPS: [(u32, u32, u32, u32, u32); 127] = [
 
 #[test]
 fn steps(rt: HostRuntime) {
-    let mut ram = Ram { bytes: [0; 4096] };
-    for &(word, a, b, expected, pc) in &STEPS {
+    let mut ram = Ram::blank();
+    for &(word, a, b, expected, pc) in STEPS {
         ram.hold(word);
+        let mut after = started(a, b);
+        after.registers[3] = expected;
+        after.pc = pc;
         assert_eq!(rt;
-            (word, outcome(&ram, a, b)),
-            (word, Some((0, expected, pc)))
+            stepped(&ram, a, b),
+            Some(after),
+            "{word:#010x} at {a:#x} and {b:#x}"
         );
     }
 }
 
 // A store at pc 16, x1, x2, and the word that is at 0x100 then.
-static STORES: [(u32, u32, u32, u32); 8] = [
+static STORES: &[(u32, u32, u32, u32)] = &[
     // sb x2, 0(x1)
     (0x0020_8023, 0x100, 0xaabb_ccdd, 0x01ff_7fdd),
     (0x0020_8023, 0x101, 0xaabb_ccdd, 0x01ff_dd80),
@@ -240,18 +244,27 @@ static STORES: [(u32, u32, u32, u32); 8] = [
 
 #[test]
 fn stores(rt: HostRuntime) {
-    let mut ram = Ram { bytes: [0; 4096] };
-    for &(word, a, b, expected) in &STORES {
+    let mut ram = Ram::blank();
+    for &(word, a, b, expected) in STORES {
         ram.hold(word);
         let mut cpu = started(a, b);
-        assert!(rt; tick(&mut cpu, &mut ram));
-        assert_eq!(rt; (word, ram.word(0x100), cpu.pc), (word, Some(expected), 20));
-        assert_eq!(rt; ram.word(0x104), Some(0x1234_8000));
+        let flow = tick(&mut cpu, &mut ram);
+        assert_eq!(rt; flow, ControlFlow::Continue(()), "{word:#010x} at {a:#x}");
+        assert_eq!(rt;
+            (ram.word(0x100), cpu.pc),
+            (Some(expected), 20),
+            "{word:#010x} at {a:#x}"
+        );
+        assert_eq!(rt;
+            ram.word(0x104),
+            Some(0x1234_8000),
+            "{word:#010x} at {a:#x}"
+        );
     }
 }
 
 // What stops at pc 16, with x1 and x2.
-static STOPS: [(u32, u32, u32); 53] = [
+static STOPS: &[(u32, u32, u32)] = &[
     // jal x3, 6
     (0x0060_01ef, 0, 0),
     // jal x3, 1048574
@@ -353,22 +366,23 @@ static STOPS: [(u32, u32, u32); 53] = [
 
 #[test]
 fn stops(rt: HostRuntime) {
-    let mut ram = Ram { bytes: [0; 4096] };
-    for &(word, a, b) in &STOPS {
+    let mut ram = Ram::blank();
+    for &(word, a, b) in STOPS {
         ram.hold(word);
-        assert!(rt; matches!(act(&started(a, b), &ram), Step::Stop));
+        let step = act(&started(a, b), &ram);
+        assert_eq!(rt; step, Step::Stop, "{word:#010x} at {a:#x} and {b:#x}");
     }
     // A pc that is no multiple of 4, or where there is no page.
     ram.hold(0x0000_0013);
     for pc in [17, 18, 19, 4096, 0xffff_fffc] {
-        assert!(rt; matches!(act(&Cpu::fresh(pc), &ram), Step::Stop));
+        assert_eq!(rt; act(&Cpu::fresh(pc), &ram), Step::Stop, "at {pc:#x}");
     }
 }
 
 const ECALL: u32 = 0x0000_0073;
 
 // x17 and x10 to x12 of calls that there are not.
-const REFUSED: [(u32, u32, u32, u32); 6] = [
+const REFUSED: &[(u32, u32, u32, u32)] = &[
     (13, 0, 0, 0),
     (0xffff_ffff, 0, 0, 0),
     // cut: a pool of no frames, one that is too large, a kind 4
@@ -381,45 +395,45 @@ const REFUSED: [(u32, u32, u32, u32); 6] = [
 
 #[test]
 fn refuses(rt: HostRuntime) {
-    let mut ram = Ram { bytes: [0; 4096] };
+    let mut ram = Ram::blank();
     ram.hold(ECALL);
-    for (number, a, b, c) in REFUSED {
+    for &(number, a, b, c) in REFUSED {
         let mut cpu = started(0, 0);
-        cpu.put(17, number);
-        cpu.put(10, a);
-        cpu.put(11, b);
-        cpu.put(12, c);
-        assert!(rt; tick(&mut cpu, &mut ram));
-        assert_eq!(rt; (cpu.get(10), cpu.get(11), cpu.pc), (0xffff_ffff, b, 20));
+        for (register, value) in [(17, number), (10, a), (11, b), (12, c)] {
+            cpu.put(register, value);
+        }
+        let mut after = cpu;
+        after.registers[10] = 0xffff_ffff;
+        after.pc = 20;
+        let flow = tick(&mut cpu, &mut ram);
+        assert_eq!(rt;
+            flow,
+            ControlFlow::Continue(()),
+            "call {number} of {a}, {b}, {c}"
+        );
+        assert_eq!(rt; cpu, after, "call {number} of {a}, {b}, {c}");
     }
 }
 
 #[test]
-fn sends(rt: HostRuntime) -> Result<(), Fail> {
-    let mut ram = Ram { bytes: [0; 4096] };
+fn sends(rt: HostRuntime) {
+    let mut ram = Ram::blank();
     ram.hold(ECALL);
     let mut cpu = started(0, 0);
     for number in 10..17u8 {
         cpu.put(number, u32::from(number));
     }
     cpu.put(17, 5);
-    match act(&cpu, &ram) {
-        Step::Call(
-            Call::Send {
-                port,
-                hand_on,
-                words,
-            },
-        ) => {
-            assert_eq!(rt; (port, hand_on, words), (10, 11, [12, 13, 14, 15]));
-            Ok(())
-        },
-        _ => Err(Fail::new("no send")),
-    }
+    let send = Call::Send {
+        port: 10,
+        hand_on: 11,
+        words: [12, 13, 14, 15],
+    };
+    assert_eq!(rt; act(&cpu, &ram), Step::Call(send));
 }
 
 // What comes back, and x10 to x16 then, if all were 7.
-const ANSWERS: [(Answer, [u32; 7]); 4] = [
+const ANSWERS: &[(Answer, [u32; 7])] = &[
     (Answer::No, [0xffff_ffff, 7, 7, 7, 7, 7, 7]),
     (Answer::Done, [0, 7, 7, 7, 7, 7, 7]),
     (Answer::Heard(255), [0, 255, 7, 7, 7, 7, 7]),
@@ -435,14 +449,13 @@ const ANSWERS: [(Answer, [u32; 7]); 4] = [
 #[test]
 fn answers(rt: HostRuntime) {
     for (answer, expected) in ANSWERS {
+        let mut registers = [7; 32];
         let mut cpu = Cpu {
             pc: 0xffff_fffc,
-            registers: [7; 32],
+            registers,
         };
-        cpu.resume(answer);
-        assert_eq!(rt; cpu.pc, 0);
-        for (index, value) in expected.iter().enumerate() {
-            assert_eq!(rt; cpu.registers[10 + index], *value);
-        }
+        registers[10..17].copy_from_slice(expected);
+        cpu.resume(*answer);
+        assert_eq!(rt; cpu, Cpu { pc: 0, registers }, "{answer:?}");
     }
 }

@@ -11,9 +11,17 @@ pub struct Ram {
 }
 
 impl Ram {
+    // All bytes are 0.
+    pub fn blank() -> Ram
+        ensures { result ≡ spec.blank }
+    {
+        Ram { bytes: [0; 4096] }
+    }
+
     pub fn put(&mut self, address: usize, byte: u8)
         ensures { self.new ≡ spec.put_byte self.old address byte }
     {
+        // Tried: of a write through the get_mut of an array no element is known.
         if address < 4096 {
             self.bytes[address] = byte;
         }
@@ -22,17 +30,10 @@ impl Ram {
     pub fn store(&mut self, address: u32, width: Width, value: u32)
         ensures { self.new ≡ spec.put_bytes self.old address (bytes_of width value) }
     {
-        let at = address as usize;
-        let [a, b, c, d] = value.to_le_bytes();
-        self.put(at, a);
-        match width {
-            Width::Byte => {}
-            Width::Half => self.put(at + 1, b),
-            Width::Word => {
-                self.put(at + 1, b);
-                self.put(at + 2, c);
-                self.put(at + 3, d);
-            }
+        let bytes = value.to_le_bytes();
+        let low = &bytes[..width.size() as usize];
+        for (i, byte) in low.iter().enumerate() {
+            self.put(address as usize + i, *byte);
         }
     }
 
@@ -50,9 +51,6 @@ impl Memory for Ram {
     ghost seen = { spec.byte_of };
 
     fn byte(&self, address: u32) -> Option<u8> {
-        if address >= 4096 {
-            return None;
-        }
-        Some(self.bytes[address as usize])
+        self.bytes.get(address as usize).copied()
     }
 }

@@ -5,6 +5,7 @@ ghost use Rattle.rv32_tests.specs.Ticked as spec;
 
 use crate::ram::Ram;
 use rv32::{Cpu, Step, act};
+use std::ops::ControlFlow;
 
 // A core at pc 16 with x1 and x2.
 pub fn started(a: u32, b: u32) -> Cpu
@@ -16,9 +17,9 @@ pub fn started(a: u32, b: u32) -> Cpu
     cpu
 }
 
-// What one instruction of such a core leaves in the place of x0, in x3 and in the pc, if it touches nothing else.
-pub fn outcome(ram: &Ram, a: u32, b: u32) -> Option<(u32, u32, u32)>
-    ensures { result ≡ spec.outcome (core.act (spec.started a b) (spec.byte_of ram.now)) }
+// What one instruction leaves of such a core, if it touches nothing else.
+pub fn stepped(ram: &Ram, a: u32, b: u32) -> Option<Cpu>
+    ensures { result ≡ spec.stepped (core.act (spec.started a b) (spec.byte_of ram.now)) }
 {
     let mut cpu = started(a, b);
     let Step::Next {
@@ -30,11 +31,11 @@ pub fn outcome(ram: &Ram, a: u32, b: u32) -> Option<(u32, u32, u32)>
         return None;
     };
     cpu.go_on(register, value, pc);
-    Some((cpu.registers[0], cpu.get(3), cpu.pc))
+    Some(cpu)
 }
 
-// Whether it goes on: not at a call, and not where it stops.
-pub fn tick(cpu: &mut Cpu, ram: &mut Ram) -> bool
+// One instruction; a call, and what stops, are left to the caller.
+pub fn tick(cpu: &mut Cpu, ram: &mut Ram) -> ControlFlow<Step>
     ensures { spec.Ticked (core.act cpu.old (spec.byte_of ram.old)) cpu.old ram.old result cpu.new ram.new }
 {
     match act(cpu, ram) {
@@ -42,10 +43,7 @@ pub fn tick(cpu: &mut Cpu, ram: &mut Ram) -> bool
             register,
             value,
             pc,
-        } => {
-            cpu.go_on(register, value, pc);
-            true
-        }
+        } => cpu.go_on(register, value, pc),
         Step::Store {
             address,
             width,
@@ -53,8 +51,8 @@ pub fn tick(cpu: &mut Cpu, ram: &mut Ram) -> bool
         } => {
             ram.store(address, width, value);
             cpu.advance();
-            true
         }
-        Step::Call(_) | Step::Stop => false,
+        step @ (Step::Call(_) | Step::Stop) => return ControlFlow::Break(step),
     }
+    ControlFlow::Continue(())
 }

@@ -1,5 +1,7 @@
-use Rattle.std.proofs.Common.{◌≤◌, vec_len}
+use Rattle.std.proofs.Common.{◌≡◌, ◌++◌}
+use Rattle.std.specs.List.{repeat}
+use Rattle.image_tests.specs.Written.{header}
 use Rattle.image_tests.proofs.images.Objects.headers.Given as goal
 
-abbrev pub invariant-loop-turn : goal.invariant-loop-turn
-invariant-loop-turn l = vec_len l.initial.to.bytes ≤ vec_len l.to.bytes
+abbrev pub invariant-loop : goal.invariant-loop
+invariant-loop l = l.image ≡ l.initial.image ++ repeat l.counter (header l.self.1 l.self.2)
