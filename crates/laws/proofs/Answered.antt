@@ -65,7 +65,7 @@ module _ (Cpu : Type 0) (fresh : ℕ → Cpu) (act : Cpu → (ℕ → ℕ) → A
       inr (inr (ap (λ (i : ℕ). seen_as i ready (k (no ∷ []))) l ∙ ap (λ (i : List ℕ → Cpu). seen_as f ready (i (no ∷ []))) q, subst (λ (i : ℕ). among i os ≡ true) m n))
 
   -- who waits and is told words goes on with them
-  resumed_at : (w : World Cpu) (t f o a : ℕ) (ws ps : List ℕ) (c : Cpu) (rs : List Bool) (then : List ℕ → Cpu) → obj w t ≡ thread f (waits o then) c a ps rs → obj (resumed Cpu fresh act w t ws) t ≡ thread f ready (then ws) a ps rs
+  pub resumed_at : (w : World Cpu) (t f o a : ℕ) (ws ps : List ℕ) (c : Cpu) (rs : List Bool) (then : List ℕ → Cpu) → obj w t ≡ thread f (waits o then) c a ps rs → obj (resumed Cpu fresh act w t ws) t ≡ thread f ready (then ws) a ps rs
   unfolding resumed set_state then_of
   resumed_at w t f o a ws ps c rs then e = put_here Cpu fresh act w t _ (λ g. clash (cc)) ∙ ap (λ (x : Object Cpu). set_state Cpu fresh act x ready (then_of Cpu fresh act x ws (fresh 0))) e
 

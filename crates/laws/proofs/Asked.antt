@@ -47,7 +47,7 @@ module _ (Cpu : Type 0) (fresh : ℕ → Cpu) (act : Cpu → (ℕ → ℕ) → A
     unfolding went_on
     at_rest o g ws vs r = put_state _ p f a ready (waits o then) c (fresh 0) ps rs (put_else Cpu fresh act w o p _ (other o g ws r) ∙ e)
 
-    at_meeting : (o g : ℕ) (q : List Wait) (y : Wait) (h : Bool) (i s b d : ℕ) (us vs : List ℕ) → obj w o ≡ port g (y ∷ q) →
+    pub at_meeting : (o g : ℕ) (q : List Wait) (y : Wait) (h : Bool) (i s b d : ℕ) (us vs : List ℕ) → obj w o ≡ port g (y ∷ q) →
         (a' : ℕ) × (ps' : List ℕ) × (rs' : List Bool) × (obj (went_on Cpu fresh act w p then (on (resumed Cpu fresh act (handed Cpu fresh act (with_object Cpu fresh act w o (port g q)) h i s b d) (waits_thread Cpu fresh act y) us) vs)) p ≡ thread f ready (then vs) a' ps' rs')
     unfolding went_on view
     at_meeting o g q y h i s b d us vs r =
@@ -74,7 +74,7 @@ module _ (Cpu : Type 0) (fresh : ℕ → Cpu) (act : Cpu → (ℕ → ℕ) → A
         let y = at_meeting o k vs (sender t b ws i j m) h' a' s' b' d' (0 ∷ []) (0 ∷ b ∷ ws) q in receive_done t b y.0 ws y.1 y.2 refl y.3
 
   -- an event of a ready thread whose instruction is a call
-  is_call : (z : Sizes) (w : World Cpu) (p f a : ℕ) (c : Cpu) (ps : List ℕ) (rs : List Bool) (d : Call) (then : List ℕ → Cpu) → obj w p ≡ thread f ready c a ps rs → act c (seen Cpu fresh act z w ps) ≡ call d then →
+  pub is_call : (z : Sizes) (w : World Cpu) (p f a : ℕ) (c : Cpu) (ps : List ℕ) (rs : List Bool) (d : Call) (then : List ℕ → Cpu) → obj w p ≡ thread f ready c a ps rs → act c (seen Cpu fresh act z w ps) ≡ call d then →
       (event Cpu fresh act z w (tick p) ≡ went_on Cpu fresh act w p then (does Cpu fresh act z w p d)) × (event_noted Cpu fresh act z w (tick p) ≡ call_noted Cpu fresh act z w p d)
   unfolding event event_noted ticked tick_noted acts act_noted
   is_call z w p f a c ps rs d then e g =

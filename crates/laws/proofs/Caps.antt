@@ -11,16 +11,16 @@ use lib.ListN.{length, get_or, replicate}
 use Rattle.rights.specs.World.{pick, Rights, Slot, empty, cap, Kind, a_pool, a_table, a_port, a_page, revoke, Act, Object, gone, pool, table, port}
 use Rattle.rights.specs.World.{page, thread, line, Sizes, World, Event, slot_object, slot_rights, slot_birth, slot_mother, is_empty, among, object}
 use Rattle.rights.specs.World.{with_object, slots_of, slot, made_from, offspring, cuttings, cleared, refilled, Went, on, refuse, made, is_pool}
-use Rattle.rights.specs.World.{revoking, does, run}
+use Rattle.rights.specs.World.{revoking, set_state, State, does, event, run}
 use Rattle.rights.specs.Promise.{Parted, Comes, Revoked, HeldIsThere, NoMore}
 use Rattle.laws.proofs.Tests.{yes_no, no_yes, both_ways, clash, or_cases, less_one, among-++}
 use Rattle.laws.proofs.Steps.{NoWider, to, In, Turn, kept, spoken, stored, mapped, bound, ran, rowed, drawn, slotted, cut_new, Born, Change, one}
 use Rattle.laws.proofs.Sweeping.{AfterSweep, lost, untouched, slots_go, waits_go, goes_calm, goes_waiting, goes_woken, swept_at, emptied_at}
-use Rattle.laws.proofs.Moves.{small_refilled}
-use Rattle.laws.proofs.Pass.{run_keeps}
+use Rattle.laws.proofs.Moves.{small_refilled, small_state}
+use Rattle.laws.proofs.Pass.{event_keeps, run_keeps}
 
 -- births that were given out
-data Under (b : ℕ) : List Slot → Type 0 where
+pub data Under (b : ℕ) : List Slot → Type 0 where
   under_nil : Under b []
   under_cons : {x : Slot} {xs : List Slot} → slot_birth x ≤ b → Under b xs → Under b (x ∷ xs)
 
@@ -108,15 +108,15 @@ module _ (Cpu : Type 0) (fresh : ℕ → Cpu) (act : Cpu → (ℕ → ℕ) → A
   unfolding In
   in_swept w ids os y (o, i, e, n) = let h = swept_in (swept_at Cpu fresh act w ids os o) i y e n in ((o, i, h.0, n), h.1, h.2)
 
-  lives_swept : (w : World Cpu) (ids os : List ℕ) (u : ℕ) → among u os ≡ false → object Cpu fresh act (cleared Cpu fresh act w ids os) u ≡ gone → object Cpu fresh act w u ≡ gone
+  pub lives_swept : (w : World Cpu) (ids os : List ℕ) (u : ℕ) → among u os ≡ false → object Cpu fresh act (cleared Cpu fresh act w ids os) u ≡ gone → object Cpu fresh act w u ≡ gone
   lives_swept w ids os u l e = swept_lives (swept_at Cpu fresh act w ids os u) l e
 
-  record Good (w : World Cpu) : Type 0 where
-    alive : (y : Slot) → In Cpu fresh act w y → object Cpu fresh act w (to y) ≡ gone → ⊥
-    low : (y : Slot) → In Cpu fresh act w y → (slot_birth y ≤ w.births) × (slot_mother y ≤ w.births)
-    uniq : (x y : Slot) → In Cpu fresh act w x → In Cpu fresh act w y → slot_birth x ≡ slot_birth y → x ≡ y
-    less : (x y : Slot) → In Cpu fresh act w x → In Cpu fresh act w y → slot_mother x ≡ slot_birth y → slot_object x ≡ slot_object y → NoWider (slot_rights x) (slot_rights y)
-    under : Under w.births w.lineage
+  pub record Good (w : World Cpu) : Type 0 where
+    pub alive : (y : Slot) → In Cpu fresh act w y → object Cpu fresh act w (to y) ≡ gone → ⊥
+    pub low : (y : Slot) → In Cpu fresh act w y → (slot_birth y ≤ w.births) × (slot_mother y ≤ w.births)
+    pub uniq : (x y : Slot) → In Cpu fresh act w x → In Cpu fresh act w y → slot_birth x ≡ slot_birth y → x ≡ y
+    pub less : (x y : Slot) → In Cpu fresh act w x → In Cpu fresh act w y → slot_mother x ≡ slot_birth y → slot_object x ≡ slot_object y → NoWider (slot_rights x) (slot_rights y)
+    pub under : Under w.births w.lineage
 
   full_in : (w : World Cpu) (y : Slot) → In Cpu fresh act w y → is_empty y ≡ false
   unfolding In
@@ -198,7 +198,10 @@ module _ (Cpu : Type 0) (fresh : ℕ → Cpu) (act : Cpu → (ℕ → ℕ) → A
         under = g.under;
       }
 
-  good_run : (z : Sizes) (w : World Cpu) (es : List Event) → Good w → Good (run Cpu fresh act z w es)
+  pub good_event : (z : Sizes) (w : World Cpu) (e : Event) → Good w → Good (event Cpu fresh act z w e)
+  good_event = event_keeps Cpu fresh act Good (λ w v c g. good_small c g) (λ w ids os c g. good_sweep w ids os g)
+
+  pub good_run : (z : Sizes) (w : World Cpu) (es : List Event) → Good w → Good (run Cpu fresh act z w es)
   good_run = run_keeps Cpu fresh act Good (λ w v c g. good_small c g) (λ w ids os c g. good_sweep w ids os g)
 
   -- at the start
@@ -219,7 +222,7 @@ module _ (Cpu : Type 0) (fresh : ℕ → Cpu) (act : Cpu → (ℕ → ℕ) → A
       let h = p.once o i u b j m o' i' u' b' m' r r' e f in
       sym e ∙ ap (λ (k : ℕ). get_or (slots_of Cpu fresh act (object Cpu fresh act v k)) i empty) h.0 ∙ ap (λ (k : ℕ). get_or (slots_of Cpu fresh act (object Cpu fresh act v o')) k empty) h.1 ∙ e'
 
-  good_first : (v : World Cpu) → Parted Cpu fresh act (λ o. true) v → Good v
+  pub good_first : (v : World Cpu) → Parted Cpu fresh act (λ o. true) v → Good v
   good_first v p =
       record {
         alive = λ y h. (at_start v y p h).3;
@@ -291,7 +294,7 @@ module _ (Cpu : Type 0) (fresh : ℕ → Cpu) (act : Cpu → (ℕ → ℕ) → A
   unfolding Without cleared
   cleared_without w ids os k l e = (l, λ y h q. yes_no (sym e ∙ ap (λ (i : ℕ). among i ids) (sym q) ∙ (in_swept w ids os y h).1))
 
-  on_same : (v w : World Cpu) (ws vs : List ℕ) → ◌≡◌ {A = Went Cpu fresh act} (on v ws) (on w vs) → v ≡ w
+  pub on_same : (v w : World Cpu) (ws vs : List ℕ) → ◌≡◌ {A = Went Cpu fresh act} (on v ws) (on w vs) → v ≡ w
   on_same v w ws vs e = cc
 
   after_revoke : (z : Sizes) (w v : World Cpu) (p s k : ℕ) → Good w → among k (offspring Cpu fresh act w w.births (slot_birth (slot Cpu fresh act w p s) ∷ [])) ≡ true → does Cpu fresh act z w p (revoke s) ≡ on v (0 ∷ []) → Without k v
@@ -314,6 +317,13 @@ module _ (Cpu : Type 0) (fresh : ℕ → Cpu) (act : Cpu → (ℕ → ℕ) → A
       go true d q = let f : ◌≡◌ {A = ℕ} 4294967295 0 = cc in absurd (omega arith)
       go false true q = subst (Without k) (on_same _ v _ _ q) (without_small k (small_refilled Cpu fresh act (cleared Cpu fresh act w ids os) o) (cleared_without w ids os k l a))
       go false false q = subst (Without k) (on_same _ v _ _ q) (cleared_without w ids [] k l a)
+
+  -- also once the thread that revoked goes on
+  pub revoked_then : (z : Sizes) (w v : World Cpu) (p s k : ℕ) → Good w → among k (offspring Cpu fresh act w w.births (slot_birth (slot Cpu fresh act w p s) ∷ [])) ≡ true → does Cpu fresh act z w p (revoke s) ≡ on v (0 ∷ []) →
+      (a : State Cpu) (d : Cpu) (fs : List Event) (o i t c n : ℕ) (q : Rights) → get_or (slots_of Cpu fresh act (object Cpu fresh act (run Cpu fresh act z (with_object Cpu fresh act v p (set_state Cpu fresh act (object Cpu fresh act v p) a d)) fs) o)) i empty ≡ cap t q c k n → ⊥
+  unfolding Without slot_birth
+  revoked_then z w v p s k g h e a d fs o i t c n q l =
+      (without_run z k _ fs (without_small k (small_state Cpu fresh act v p a d) (after_revoke z w v p s k g h e))).1 (cap t q c k n) (in_at (run Cpu fresh act z (with_object Cpu fresh act v p (set_state Cpu fresh act (object Cpu fresh act v p) a d)) fs) o i t c k n q l) refl
 
   pub revoked : Revoked Cpu fresh act
   unfolding Revoked Without slot_birth

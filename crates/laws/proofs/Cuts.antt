@@ -51,7 +51,7 @@ module _ (Cpu : Type 0) (fresh : ℕ → Cpu) (act : Cpu → (ℕ → ℕ) → A
   table_kept (thread f s c t ps rs) ss = refl
   table_kept (line xs ys) ss = refl
 
-  filled_in : (x : Object Cpu) (d : ℕ) (e : Slot) → d < length (slots_of Cpu fresh act x) → get_or (slots_of Cpu fresh act (with_slots Cpu fresh act x (set (slots_of Cpu fresh act x) d e))) d empty ≡ e
+  pub filled_in : (x : Object Cpu) (d : ℕ) (e : Slot) → d < length (slots_of Cpu fresh act x) → get_or (slots_of Cpu fresh act (with_slots Cpu fresh act x (set (slots_of Cpu fresh act x) d e))) d empty ≡ e
   unfolding slots_of with_slots
   filled_in gone d e l = absurd (not-suc-le-zero l)
   filled_in (pool f n u) d e l = absurd (not-suc-le-zero l)
@@ -147,7 +147,7 @@ module _ (Cpu : Type 0) (fresh : ℕ → Cpu) (act : Cpu → (ℕ → ℕ) → A
           subst (λ (ys : List (Object Cpu)). get_or ys (length xs) gone ≡ m) (sym objects_are)
           (set_apart (zs ++ m ∷ []) T (length xs) _ gone (λ q. let l = T-in in omega arith) ∙ subst (λ (i : ℕ). get_or (zs ++ m ∷ []) i gone ≡ m) len (at_end zs m gone))
 
-      at_pool : obj after_cut o ≡ pool f n c
+      pub at_pool : obj after_cut o ≡ pool f n c
       unfolding object zs xs
       at_pool =
           subst (λ (ys : List (Object Cpu)). get_or ys o gone ≡ pool f n c) (sym objects_are)
@@ -175,6 +175,17 @@ module _ (Cpu : Type 0) (fresh : ℕ → Cpu) (act : Cpu → (ℕ → ℕ) → A
 
           found : pick (eqb (table_of Cpu fresh act (get_or ys p gone)) 0) empty (get_or (slots_of Cpu fresh act (get_or ys (table_of Cpu fresh act (get_or ys p gone) - 1) gone)) d empty) ≡ e
           found = rw (p_table, ne_eqb (table_of Cpu fresh act (get_or xs p gone)) 0 has_table) T-slots
+
+      -- what is in each place after the cut: what was there, the pool with more used, the new object, or a table with another slot
+      pub cut_places {ℓ} : (P : ℕ → Object Cpu → Type ℓ) (t : ℕ) → P t (obj w t) → (t ≡ o → P t (pool f n c)) → (t ≡ length w.objects → P t (made Cpu fresh act z (suc o) k)) →
+          ((y : Slot) → P t (with_slots Cpu fresh act (obj w t) (set (slots_of Cpu fresh act (obj w t)) d y))) → P t (obj after_cut t)
+      unfolding object xs m
+      cut_places P t h q g r = put_place P t h q g (λ l. subst (λ (i : ℕ). P t (with_slots Cpu fresh act (get_or w.objects i gone) (set (slots_of Cpu fresh act (get_or w.objects i gone)) d e))) l (r e))
+
+      -- the new capability is in its slot
+      pub slot_after : slot Cpu fresh act after_cut p d ≡ cap (length w.objects) (all_rights Cpu fresh act) 0 (suc w.births) (slot_birth x)
+      unfolding e xs
+      slot_after = at_slot_d
 
       pub small_cut : (c ≤ n) → In Cpu fresh act w x → slot_object x ≡ suc o → Change Cpu fresh act w after_cut
       unfolding object xs zs e m after_cut with_slot with_object slot_mother slot_birth slot_object is_pool

@@ -95,7 +95,7 @@ module _ (fresh : ℕ → Cpu) (act : Cpu → (ℕ → ℕ) → Act Cpu) (r : Ri
   pools_are (suc (suc (suc (suc (suc (suc zero)))))) f n u e = clash (cc)
   pools_are (suc (suc (suc (suc (suc (suc (suc o))))))) f n u e = clash (cc)
 
-  uncut_all : (o : ℕ) → from_of Cpu fresh act (obj o) ≡ 0
+  pub uncut_all : (o : ℕ) → from_of Cpu fresh act (obj o) ≡ 0
   unfolding object from_of
   uncut_all zero = refl
   uncut_all (suc zero) = refl
@@ -126,7 +126,7 @@ module _ (fresh : ℕ → Cpu) (act : Cpu → (ℕ → ℕ) → Act Cpu) (r : Ri
       asleep : (u : ℕ) (then : List ℕ → Cpu) → ◌≡◌ {A = State Cpu} (waits u then) ready → ⊥
       asleep u then e = clash (cc)
 
-  small_kinds : Kinds Cpu fresh act (small r)
+  pub small_kinds : Kinds Cpu fresh act (small r)
   unfolding object
   small_kinds =
       record {

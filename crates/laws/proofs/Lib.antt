@@ -6,14 +6,20 @@ pub mod Sweeping
 pub mod Moves
 pub mod Cuts
 pub mod Pass
+pub mod Filling
 pub mod Pools
 pub mod Caps
+pub mod Quiet
 pub mod Places
 pub mod Rows
 pub mod Dangles
 pub mod Order
 pub mod Answered
 pub mod Asked
+pub mod Meetings
+pub mod Makings
+pub mod Standing
+pub mod Taking
 pub mod Tied
 pub mod Clear
 pub mod Kindred
@@ -26,3 +32,4 @@ pub mod ExampleWorld
 pub mod Worked
 pub mod ExampleSets
 pub mod Faults
+pub mod FaultySteps

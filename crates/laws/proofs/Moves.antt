@@ -6,12 +6,13 @@ use mathlib.Core.Logic.{◌⊎◌, inl, inr}
 use Prim.Native.Nat.{ℕ, zero, suc, ◌-◌, zero-le}
 use native.Mathlib.Omega.{arith}
 use lib.Dec.{eqb, eqb-suc-zero}
+use borrow.Author.Tests.{eq-eqb}
 use lib.ListN.{length, get_or, set, length-set}
 use Rattle.rights.specs.World.{Rights, meet, Slot, empty, cap, Act, State, Object, gone, pool, table, port, page, thread, line, World, slot_object}
 use Rattle.rights.specs.World.{slot_rights, slot_birth, slot_mother, is_empty, copied, among, object, with_object, slots_of, from_of, table_of, slot}
 use Rattle.rights.specs.World.{with_slots, with_slot, cuttings, cleared, refilled, set_state, handed}
 use Rattle.rights.specs.Promise.{row_of}
-use Rattle.laws.proofs.Tests.{yes_no, no_yes, both_ways, pick_both, pick_know, and_left, less_one, set_by}
+use Rattle.laws.proofs.Tests.{yes_no, no_yes, both_ways, pick_both, pick_know, or_first, or_second, and_left, less_one, set_by}
 use Rattle.laws.proofs.CutFrom.{fr, dual, sat}
 use Rattle.laws.proofs.Steps.{NoWider, In, Turn, kept, ran, drawn, slotted, Change, Closed, AllCut, AllGone, small, Steps, none, after, one}
 use Rattle.laws.proofs.Steps.{waits_at, view, waiting_of, SameFace, AllSeen, SameFaces}
@@ -196,7 +197,7 @@ module _ (Cpu : Type 0) (fresh : ℕ → Cpu) (act : Cpu → (ℕ → ℕ) → A
       (moved w p s q d, all_moved w p s q d, λ u. seen_put (with_slot Cpu fresh act w q d (slot Cpu fresh act w p s)) p s empty u ∙ seen_put w q d _ u) (none, (λ u. alike _), λ u. refl)
 
   -- a copy
-  copied_is : (x : Slot) (r : Rights) (b i : ℕ) → is_empty x ≡ false →
+  pub copied_is : (x : Slot) (r : Rights) (b i : ℕ) → is_empty x ≡ false →
       (slot_mother (copied x r b i) ≡ slot_birth x) × (slot_birth (copied x r b i) ≡ i) × (slot_object (copied x r b i) ≡ slot_object x) × NoWider (slot_rights (copied x r b i)) (slot_rights x)
   unfolding copied is_empty slot_mother slot_birth slot_object slot_rights NoWider meet
   copied_is empty r b i n = yes_no n
@@ -230,17 +231,21 @@ module _ (Cpu : Type 0) (fresh : ℕ → Cpu) (act : Cpu → (ℕ → ℕ) → A
   unfolding Closed among
   closed_none w u t e h = no_yes h
 
-  pub closed_cuttings : (w : World Cpu) (o : ℕ) → Closed Cpu fresh act w (cuttings Cpu fresh act w (length w.objects) (o ∷ []))
-  unfolding Closed object fr
-  closed_cuttings w o u t e h =
-      sym (sat Cpu fresh act w (o ∷ []) (suc (length w.objects)) u (omega arith)) ∙ dual Cpu fresh act w (length w.objects) (o ∷ []) u ∙ yes (from_of Cpu fresh act (get_or w.objects u gone)) e
+  -- what was cut from one of them, or from the pool itself, is among a pool's cuttings
+  from_cutting : (w : World Cpu) (o u t : ℕ) → from_of Cpu fresh act (obj w u) ≡ suc t → (among t (o ∷ []) || among t (cuttings Cpu fresh act w (length w.objects) (o ∷ []))) ≡ true → among u (cuttings Cpu fresh act w (length w.objects) (o ∷ [])) ≡ true
+  unfolding object fr
+  from_cutting w o u t e h = sym (sat Cpu fresh act w (o ∷ []) (suc (length w.objects)) u (omega arith)) ∙ dual Cpu fresh act w (length w.objects) (o ∷ []) u ∙ yes (from_of Cpu fresh act (get_or w.objects u gone)) e
     where
-      or_true : (c : Bool) → (c || true) ≡ true
-      or_true true = refl
-      or_true false = refl
-
       yes : (f : ℕ) → f ≡ suc t → (not (eqb f 0) && (among (f - 1) (o ∷ []) || among (f - 1) (cuttings Cpu fresh act w (length w.objects) (o ∷ [])))) ≡ true
-      yes f q = rw (q, eqb-suc-zero t, less_one t, h) (or_true (among t (o ∷ [])))
+      yes f q = rw (q, eqb-suc-zero t, less_one t) h
+
+  pub closed_cuttings : (w : World Cpu) (o : ℕ) → Closed Cpu fresh act w (cuttings Cpu fresh act w (length w.objects) (o ∷ []))
+  unfolding Closed
+  closed_cuttings w o u t e h = from_cutting w o u t e (or_second _ _ h)
+
+  pub cut_among : (w : World Cpu) (o u : ℕ) → from_of Cpu fresh act (obj w u) ≡ suc o → among u (cuttings Cpu fresh act w (length w.objects) (o ∷ [])) ≡ true
+  unfolding among
+  cut_among w o u e = from_cutting w o u o e (or_first _ _ (or_first _ _ (eq-eqb o o refl)))
 
   pub cut_none : (w : World Cpu) → AllCut Cpu fresh act w []
   unfolding AllCut among

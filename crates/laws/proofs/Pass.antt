@@ -16,7 +16,7 @@ use Rattle.rights.specs.World.{on, refuse, cutting, is_pool, revoking, resumed, 
 use Rattle.rights.specs.World.{going, saying, hearing, does, bytes_of, from_page, seen, stores, may_store, went_on, acts, ticked, comes_in, event}
 use Rattle.rights.specs.World.{run}
 use Rattle.rights.specs.Promise.{Note, row_of, first_of, send_noted, receive_noted, port_at, first_at, call_noted, act_noted, tick_noted, event_noted}
-use Rattle.laws.proofs.Tests.{yes_no, no_yes, pick_both, pick_know, or_left, or_right, and_left, and_right, less_one}
+use Rattle.laws.proofs.Tests.{yes_no, no_yes, both_hold, pick_both, pick_know, or_left, or_right, and_left, and_right, less_one}
 use Rattle.laws.proofs.Forms.{by_pool, by_port, by_thread, by_line, no_cut, no_copy, cutting_is, sending_is, receiving_is, mapping_is, unmapping_is}
 use Rattle.laws.proofs.Forms.{binding_is, going_is, saying_is, hearing_is, comes_in_is}
 use Rattle.laws.proofs.Steps.{to, is_sender, came, met, told, Turn, spoken, stored, mapped, bound, ran, rowed, Change, Closed, small, swept, Steps}
@@ -196,11 +196,7 @@ module _ (Cpu : Type 0) (fresh : ℕ → Cpu) (act : Cpu → (ℕ → ℕ) → A
     unfolding does call_noted waits_thread
     d_does z w (cut s k d) =
         pick_know (Doing Cpu fresh act w p []) (no_cut Cpu fresh act w p s d) (λ _. refused w)
-        (λ g. let ne = or_left _ _ g in d_cutting z w k s d ne (free _ _ (or_right _ _ (or_right (is_empty (slot Cpu fresh act w p s)) _ g))) (leads_to _ ne))
-      where
-        free : (a b : Bool) → not (a && b) ≡ false → a ≡ true
-        free true b e = refl
-        free false b e = yes_no e
+        (λ g. let ne = or_left _ _ g in d_cutting z w k s d ne (both_hold _ _ (or_right _ _ (or_right (is_empty (slot Cpu fresh act w p s)) _ g))) (leads_to _ ne))
     d_does z w (copy s d r b) =
         pick_know (Doing Cpu fresh act w p []) (no_copy Cpu fresh act w p s d) (λ _. refused w)
         (λ g. goes (0 ∷ []) (one Cpu fresh act (small (small_copy Cpu fresh act w p s d r b (or_left _ _ g)))) (λ _. all_copy Cpu fresh act w p d _ _))

@@ -1,7 +1,7 @@
 -- Small worlds that meet what the laws ask for, so that none of the laws is empty. Assumes nothing: these are definitions and statements.
-use Rattle.std.specs.Prelude.{◌≡◌, Bool, true, false, List, [], ◌∷◌, ◌≢◌, ℕ, suc, ◌≤◌, ◌<◌, ltb, get_or, replicate}
-use Rattle.rights.specs.World.{Act, World, Sizes, Object, Slot, Rights, Call, empty, cap, pool, line, port, page, table, thread, ready, waits, call, tick, copy, revoke, send, receive, hear, a_pool, on, object, run, does, slot, has_slot, slots_of, offspring, among}
-use Rattle.rights.specs.Promise.{Parted, New, Fits, Kinds, Uncut, Comes, Sized, filled, only, log, met_at, got_by, message}
+use Rattle.std.specs.Prelude.{◌≡◌, Bool, true, false, List, [], ◌∷◌, ◌++◌, ◌≢◌, ℕ, suc, ◌≤◌, ◌<◌, ltb, get_or, replicate}
+use Rattle.rights.specs.World.{Act, World, Sizes, Object, Slot, Rights, Call, empty, cap, pool, line, port, page, table, thread, ready, waits, call, tick, cut, copy, revoke, send, receive, hear, a_pool, a_table, a_page, on, object, event, run, does, slot, has_slot, slots_of, from_of, offspring, among, up_to}
+use Rattle.rights.specs.Promise.{Parted, New, Fits, Kinds, Uncut, Comes, Sized, filled, MadeIn, RevokedNow, standing, GoesWith, only, log, event_noted, sends, meets, met_at, got_by, message}
 use Rattle.rv32.specs.declared.registers.Cpu.{Cpu}
 use Rattle.rv32.specs.Registers.{fresh}
 
@@ -49,12 +49,26 @@ Carried =
     (a : Cpu → (ℕ → ℕ) → Act Cpu) → ((o : ℕ) → o < 7 → New Cpu fresh a board (object Cpu fresh a (small all) o)) ×
     ((frames : List (Object Cpu) → ℕ) → frames (small all).objects ≤ 4096 → Fits Cpu fresh a frames (small all))
 
--- a cut that the pool is large enough for, and one that it is too small for
+-- a cut that the pool is large enough for, and one that it is too small for; a pool of which 64 bytes are used is filled up to a whole frame
 abbrev pub Cuts : Type 0
 Cuts =
     (f : ℕ → Cpu) (a : Cpu → (ℕ → ℕ) → Act Cpu) →
     (slot Cpu f a (small all) 5 0 ≡ cap 0 all 0 1 0) × (object Cpu f a (small all) 0 ≡ pool 0 12288 0) × (has_slot Cpu f a (small all) 5 7 ≡ true) × (slot Cpu f a (small all) 5 7 ≡ empty) ×
-    Sized Cpu f a (a_pool 3) × Sized Cpu f a (a_pool 4) × (filled Cpu f a board (a_pool 3) 0 ≤ 12288) × (12288 < filled Cpu f a board (a_pool 4) 0)
+    Sized Cpu f a (a_pool 3) × Sized Cpu f a (a_pool 4) × (filled Cpu f a board (a_pool 3) 0 ≤ 12288) × (12288 < filled Cpu f a board (a_pool 4) 0) × (up_to 4096 64 ≡ 4096)
+
+-- thread 5 cuts a table of one slot and then a page: the pool is filled up to a frame before the page, so that more of it is used than what stands costs;
+-- both go with the pool, and a revoke of it comes back with 0
+abbrev pub cuts_two : Cpu → (ℕ → ℕ) → Act Cpu
+cuts_two = calling (cut 0 (a_table 1) 7 ∷ cut 0 a_page 8 ∷ [])
+
+abbrev pub cut_world : World Cpu
+cut_world = run Cpu fresh cuts_two board (small all) (tick 5 ∷ tick 5 ∷ [])
+
+abbrev pub Stands : Type 0
+Stands =
+    Kinds Cpu fresh cuts_two (small all) × ((o : ℕ) → from_of Cpu fresh cuts_two (object Cpu fresh cuts_two (small all) o) ≡ 0) × (object Cpu fresh cuts_two cut_world 0 ≡ pool 0 12288 8192) ×
+    (standing Cpu fresh cuts_two board 1 cut_world.objects ≡ 4160) ×
+    (slot Cpu fresh cuts_two cut_world 5 0 ≡ cap 0 all 0 1 0) × GoesWith Cpu fresh cuts_two cut_world 0 7 × ((v : World Cpu) × (does Cpu fresh cuts_two board cut_world 5 (revoke 0) ≡ on v (0 ∷ [])))
 
 -- thread 5 has copied its capability to the page to slot 7, to be read only
 abbrev pub copies : Cpu → (ℕ → ℕ) → Act Cpu
@@ -71,6 +85,20 @@ Makes =
     (among 8 (offspring Cpu fresh copies copied_world copied_world.births (4 ∷ [])) ≡ true) ×
     ((v : World Cpu) × (does Cpu fresh copies board copied_world 5 (revoke 3) ≡ on v (0 ∷ [])))
 
+-- thread 5 copies its capability to the page to slot 7, and that to slot 8, and revokes the first: the second copy, birth 9, was made from the first capability, birth 4, through the copy with birth 8
+abbrev pub copies_twice : Cpu → (ℕ → ℕ) → Act Cpu
+copies_twice = calling (copy 3 7 all 0 ∷ copy 7 8 all 0 ∷ revoke 3 ∷ [])
+
+abbrev pub twice_world : World Cpu
+twice_world = run Cpu fresh copies_twice board (small all) (tick 5 ∷ tick 5 ∷ [])
+
+-- and the revoke comes back with 0
+abbrev pub MakesTwice : Type 0
+MakesTwice =
+    MadeIn Cpu fresh copies_twice (does Cpu fresh copies_twice) (event Cpu fresh copies_twice) board (small all) (tick 5 ∷ tick 5 ∷ []) 4 9 ×
+    RevokedNow Cpu fresh copies_twice (does Cpu fresh copies_twice) (event Cpu fresh copies_twice) board twice_world (tick 5) 4 ×
+    (slot Cpu fresh copies_twice twice_world 5 3 ≡ cap 3 all 0 4 0) × ((v : World Cpu) × (does Cpu fresh copies_twice board twice_world 5 (revoke 3) ≡ on v (0 ∷ [])))
+
 -- thread 6 comes to receive and waits at the port; thread 5 comes to send 1 2 3 4: they meet
 abbrev pub talks : Cpu → (ℕ → ℕ) → Act Cpu
 talks = calling (send 2 (1 ∷ 2 ∷ 3 ∷ 4 ∷ []) false 0 ∷ hear 11 ∷ hear 11 ∷ hear 11 ∷ receive 2 8 ∷ [])
@@ -78,7 +106,8 @@ talks = calling (send 2 (1 ∷ 2 ∷ 3 ∷ 4 ∷ []) false 0 ∷ hear 11 ∷ hea
 abbrev pub Meets : Type 0
 Meets =
     ((c : Cpu) × (then : List ℕ → Cpu) × (object Cpu fresh talks (run Cpu fresh talks board (small all) (tick 6 ∷ [])) 6 ≡ thread 0 (waits 2 then) c 5 (replicate 64 0) (replicate 64 false))) ×
-    (met_at 2 (log Cpu fresh talks board (small all) (tick 6 ∷ tick 5 ∷ [])) ≡ got_by (message 5 0 (1 ∷ 2 ∷ 3 ∷ 4 ∷ [])) 6 ∷ [])
+    (met_at 2 (log Cpu fresh talks board (small all) (tick 6 ∷ tick 5 ∷ [])) ≡ got_by (message 5 0 (1 ∷ 2 ∷ 3 ∷ 4 ∷ [])) 6 ∷ []) ×
+    (event_noted Cpu fresh talks board (run Cpu fresh talks board (small all) (tick 6 ∷ [])) (tick 5) ≡ sends 2 5 0 (1 ∷ 2 ∷ 3 ∷ 4 ∷ []) ∷ [] ++ meets 2 5 6 0 (1 ∷ 2 ∷ 3 ∷ 4 ∷ []) ∷ [])
 
 -- two sets that hold nothing of each other: a line, a table and a thread each. The second set's capability has rights r, and its thread begins at pc n
 abbrev pub two : Rights → ℕ → World Cpu

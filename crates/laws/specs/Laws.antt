@@ -14,6 +14,14 @@ Within = (fresh : ℕ → Cpu) (act : Cpu → (ℕ → ℕ) → Act Cpu) → pro
 abbrev pub CutExactly : Type 0
 CutExactly = (fresh : ℕ → Cpu) (act : Cpu → (ℕ → ℕ) → Act Cpu) → promise.CutExactly Cpu fresh act
 
+-- a pool is filled up to the least multiple that is not below what is used
+abbrev pub FillsUpLeast : Type 0
+FillsUpLeast = promise.FillsUpLeast
+
+-- what is used of a pool covers what stands cut from it: the costs of these objects together are no more; and what is cut stands for what it cost
+abbrev pub UsedCovers : Type 0
+UsedCovers = (fresh : ℕ → Cpu) (act : Cpu → (ℕ → ℕ) → Act Cpu) → promise.UsedCovers Cpu fresh act
+
 -- a capability has no right that the one that it was made from lacks, as long as both lead to the same object
 abbrev pub NoMore : Type 0
 NoMore = (fresh : ℕ → Cpu) (act : Cpu → (ℕ → ℕ) → Act Cpu) → promise.NoMore Cpu fresh act
@@ -21,6 +29,18 @@ NoMore = (fresh : ℕ → Cpu) (act : Cpu → (ℕ → ℕ) → Act Cpu) → pro
 -- after a revoke that came back with 0, nothing that was made from what was revoked, through any others, is in any slot, whatever happens then
 abbrev pub Revoked : Type 0
 Revoked = (fresh : ℕ → Cpu) (act : Cpu → (ℕ → ℕ) → Act Cpu) → promise.Revoked Cpu fresh act
+
+-- the same by what happened, whatever the world's own record says: nothing that was made by calls, in the row of events before, from what was revoked is in any slot
+abbrev pub RevokedByCalls : Type 0
+RevokedByCalls = (fresh : ℕ → Cpu) (act : Cpu → (ℕ → ℕ) → Act Cpu) → promise.RevokedByCalls Cpu fresh act
+
+-- the world's record of what was made from what is exact: it says what happened, no less and no more
+abbrev pub RecordIsExact : Type 0
+RecordIsExact = (fresh : ℕ → Cpu) (act : Cpu → (ℕ → ℕ) → Act Cpu) → promise.RecordIsExact Cpu fresh act
+
+-- what a revoke that came back with 0 takes, and that it takes nothing else: of a pool what was cut from it; and what was made from what was revoked, leads to what is gone or is in it
+abbrev pub RevokeTakes : Type 0
+RevokeTakes = (fresh : ℕ → Cpu) (act : Cpu → (ℕ → ℕ) → Act Cpu) → promise.RevokeTakes Cpu fresh act
 
 -- the same can't be said of a revoke that came back with anything: one that is refused leaves what was made
 abbrev pub RevokedAnyFails : Type 0
@@ -55,3 +75,7 @@ ImageStarts = (fresh : ℕ → Cpu) (act : Cpu → (ℕ → ℕ) → Act Cpu) �
 -- a send or a receive is refused and goes on with no; or waits; or comes back at once with 0, by one meeting that is noted
 abbrev pub AtOnce : Type 0
 AtOnce = (fresh : ℕ → Cpu) (act : Cpu → (ℕ → ℕ) → Act Cpu) → promise.AtOnce Cpu fresh act
+
+-- whoever meets goes on in that very event: the sender with 0, the receiver with 0, the badge and the words; one of them waited there, the other made a call
+abbrev pub MetGoOn : Type 0
+MetGoOn = (fresh : ℕ → Cpu) (act : Cpu → (ℕ → ℕ) → Act Cpu) → promise.MetGoOn Cpu fresh act

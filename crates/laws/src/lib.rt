@@ -1,9 +1,9 @@
 // The laws of the abstract world: each function's contract names one.
 #![tactic(auto)]
 
-ghost use Rattle.laws.specs.Laws.{Within, CutExactly, NoMore, Revoked, RevokedAnyFails, HeldIsThere, NothingDangles, Unreached, FirstCome, ComesBack, AtOnce, ImageStarts};
-ghost use Rattle.laws.specs.Examples.{Starts, Carried, Cuts, Makes, Meets, Parts};
-ghost use Rattle.laws.specs.Wrong.{CopyTested, RevokeTested, PortTested, HandOnTested};
+ghost use Rattle.laws.specs.Laws.{Within, CutExactly, FillsUpLeast, UsedCovers, NoMore, Revoked, RevokedByCalls, RecordIsExact, RevokeTakes, RevokedAnyFails, HeldIsThere, NothingDangles, Unreached, FirstCome, ComesBack, AtOnce, MetGoOn, ImageStarts};
+ghost use Rattle.laws.specs.Examples.{Starts, Carried, Cuts, Stands, Makes, MakesTwice, Meets, Parts};
+ghost use Rattle.laws.specs.Wrong.{CopyTested, RevokeTested, PortTested, HandOnTested, StepsTested, UnrecordedTested, OnceTested, UntakenTested, UnwokenTested};
 
 // A pool is never overdrawn.
 pub fn never_overdrawn()
@@ -15,6 +15,16 @@ pub fn cut_refused_if_too_small()
     ensures { CutExactly }
 {}
 
+// Filling up is to the least multiple.
+pub fn fills_up_to_the_least()
+    ensures { FillsUpLeast }
+{}
+
+// What is used of a pool covers what stands cut from it.
+pub fn used_covers_what_stands()
+    ensures { UsedCovers }
+{}
+
 // Rights never grow.
 pub fn rights_never_grow()
     ensures { NoMore }
@@ -23,6 +33,21 @@ pub fn rights_never_grow()
 // After a revoke that came back with 0, nothing that was made from what was revoked is in any slot, ever.
 pub fn revoked_stays_away()
     ensures { Revoked }
+{}
+
+// The same by what was made by calls, whatever the world's own record says.
+pub fn made_by_calls_stays_away()
+    ensures { RevokedByCalls }
+{}
+
+// The world's record of what was made from what is exact.
+pub fn record_is_exact()
+    ensures { RecordIsExact }
+{}
+
+// A revoke takes what was made, and of a pool what was cut from it, and nothing else.
+pub fn what_a_revoke_takes()
+    ensures { RevokeTakes }
 {}
 
 // A revoke that is refused leaves what was made.
@@ -60,6 +85,11 @@ pub fn answered_at_once()
     ensures { AtOnce }
 {}
 
+// Whoever meets goes on in that very event.
+pub fn met_go_on()
+    ensures { MetGoOn }
+{}
+
 // Worlds as images carry them are starts that the laws speak of.
 pub fn images_are_starts()
     ensures { ImageStarts }
@@ -80,9 +110,19 @@ pub fn example_cuts()
     ensures { Cuts }
 {}
 
+// A table and a page that stand cut from a pool.
+pub fn example_stands()
+    ensures { Stands }
+{}
+
 // A capability made from another, and a revoke that takes it away.
 pub fn example_makes()
     ensures { Makes }
+{}
+
+// A capability made from another through a third.
+pub fn example_makes_twice()
+    ensures { MakesTwice }
 {}
 
 // A sender and a receiver that meet.
@@ -113,4 +153,29 @@ pub fn port_tested()
 // A slot that is handed on without the right is found.
 pub fn hand_on_tested()
     ensures { HandOnTested }
+{}
+
+// Rows of events by the world's own calls are the world's own.
+pub fn steps_tested()
+    ensures { StepsTested }
+{}
+
+// A copy that is not recorded is found by the law of revoke itself.
+pub fn unrecorded_copy_tested()
+    ensures { UnrecordedTested }
+{}
+
+// So is a revoke that takes one generation only.
+pub fn revoke_once_tested()
+    ensures { OnceTested }
+{}
+
+// A cut that takes nothing from its pool is found by the law of what stands cut.
+pub fn untaken_cut_tested()
+    ensures { UntakenTested }
+{}
+
+// A meeting after which the one who waited waits on is found by the law of meetings.
+pub fn unwoken_meeting_tested()
+    ensures { UnwokenTested }
 {}

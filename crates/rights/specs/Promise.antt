@@ -4,7 +4,7 @@ use Rattle.std.specs.Prelude.{◌≡◌, ℕ, zero, suc, ◌+◌, ◌-◌, ◌*�
 use Rattle.rights.specs.World.{Act, World, Sizes, Event, Object, Slot, Rights, Call, Kind, State, Wait, Went}
 use Rattle.rights.specs.World.{empty, cap, gone, thread, table, pool, port, page, line, stopped, ready, waits, tick, byte, on, wait, quiet, store, call, wrong}
 use Rattle.rights.specs.World.{cut, copy, move, drop_it, revoke, send, receive, map, unmap, bind, go, say, hear, a_pool, a_table, a_port, a_page}
-use Rattle.rights.specs.World.{object, event, run, shown_by, does, offspring, slot, slots_of, from_of, has_slot, slot_object, slot_badge, waits_thread, seen, made, all_rights, among, pick, no, up_to, step_of, cost}
+use Rattle.rights.specs.World.{object, event, run, shown_by, does, offspring, slot, slots_of, from_of, has_slot, is_pool, slot_object, slot_badge, waits_thread, seen, made, all_rights, among, pick, no, up_to, step_of, cost}
 
 module _ (Cpu : Type 0) (fresh : ℕ → Cpu) (act : Cpu → (ℕ → ℕ) → Act Cpu) where
   -- a set of objects and the others lead nowhere to each other: by slots, tables, pages in spaces, pools; and nothing was made from anything yet, and nobody waits
@@ -234,6 +234,110 @@ module _ (Cpu : Type 0) (fresh : ℕ → Cpu) (act : Cpu → (ℕ → ℕ) → A
       (z : Sizes) (frames : List (Object Cpu) → ℕ) (w : World Cpu) → ((o : ℕ) → o < length w.objects → New z (object Cpu fresh act w o)) → Fits frames w →
       Kinds w × Uncut w × ((o f n u : ℕ) → object Cpu fresh act w o ≡ pool f n u → u ≤ n)
 
+  -- MADE FROM, by what happened: by calls and slots alone, not by the world's own record of what was made from what
+  -- a call that makes a capability in slot d, with what slot s holds: a copy or a cut
+  pub data Making : Call → ℕ → ℕ → Type 0 where
+    by_copy : {s d b : ℕ} {r : Rights} → Making (copy s d r b) s d
+    by_cut : {s d : ℕ} {k : Kind} → Making (cut s k d) s d
+
+  -- slot s of thread p holds a capability with birth j
+  unfoldable pub Holds : World Cpu → ℕ → ℕ → ℕ → Type 0
+  Holds w p s j = (u : ℕ) × (r : Rights) × (b : ℕ) × (m : ℕ) × (slot Cpu fresh act w p s ≡ cap u r b j m)
+
+  -- doing and happening say how a call is done and what an event does: in the laws as in this world; elsewhere they are faulty, and a law has to refuse them
+  module _ (doing : Sizes → World Cpu → ℕ → Call → Went Cpu fresh act) (happening : Sizes → World Cpu → Event → World Cpu) where
+    -- k was made from j in event e: thread p, which is ready, makes a copy or a cut that comes back with 0, with slot s, which holds j before, into slot d, which holds k after
+    pub data MadeNow (z : Sizes) (w : World Cpu) (e : Event) (j k : ℕ) : Type 0 where
+      made_by : (p s d f a : ℕ) (x : Call) (c : Cpu) (ps : List ℕ) (rs : List Bool) (then : List ℕ → Cpu) (v : World Cpu) → e ≡ tick p → object Cpu fresh act w p ≡ thread f ready c a ps rs →
+          act c (seen Cpu fresh act z w ps) ≡ call x then → Making x s d → doing z w p x ≡ on v (0 ∷ []) → Holds w p s j → Holds (happening z w e) p d k → MadeNow z w e j k
+
+    -- k was made from j in a row of events: in its first event, in the rest, or through another
+    pub data MadeIn (z : Sizes) : World Cpu → List Event → ℕ → ℕ → Type 0 where
+      in_first : {w : World Cpu} {e : Event} {es : List Event} {j k : ℕ} → MadeNow z w e j k → MadeIn z w (e ∷ es) j k
+      in_rest : {w : World Cpu} {e : Event} {es : List Event} {j k : ℕ} → MadeIn z (happening z w e) es j k → MadeIn z w (e ∷ es) j k
+      through : {w : World Cpu} {es : List Event} {j i k : ℕ} → MadeIn z w es j i → MadeIn z w es i k → MadeIn z w es j k
+
+    -- the one with birth j is revoked in event e: thread p, which is ready, makes a revoke of slot s, which holds j, that comes back with 0
+    pub data RevokedNow (z : Sizes) (w : World Cpu) (e : Event) (j : ℕ) : Type 0 where
+      revoked_by : (p s f a : ℕ) (c : Cpu) (ps : List ℕ) (rs : List Bool) (then : List ℕ → Cpu) (v : World Cpu) → e ≡ tick p → object Cpu fresh act w p ≡ thread f ready c a ps rs →
+          act c (seen Cpu fresh act z w ps) ≡ call (revoke s) then → doing z w p (revoke s) ≡ on v (0 ∷ []) → Holds w p s j → RevokedNow z w e j
+
+    -- after a row of events es from a start, an event e in which j is revoked, and any row fs, nothing that was made from j in es is in any slot; running says what a row of events does
+    unfoldable pub RevokedByCallsIn : (Sizes → World Cpu → List Event → World Cpu) → Type 0
+    RevokedByCallsIn running =
+        (z : Sizes) (v : World Cpu) (es : List Event) (e : Event) (j k o i t c n : ℕ) (q : Rights) → 1 ≤ z.bytes → Parted (λ o. true) v →
+        MadeIn z v es j k → RevokedNow z (running z v es) e j →
+        (fs : List Event) → slice_index_or (slots_of Cpu fresh act (object Cpu fresh act (running z (happening z (running z v es) e) fs) o)) i empty ≢ cap t q c k n
+
+  unfoldable pub RevokedByCalls : Type 0
+  RevokedByCalls = RevokedByCallsIn (does Cpu fresh act) (event Cpu fresh act) (run Cpu fresh act)
+
+  -- the world's record is exact: what was made from what in a row of events is in it, and nothing else is
+  unfoldable pub RecordIsExact : Type 0
+  RecordIsExact =
+      (z : Sizes) (v : World Cpu) (es : List Event) (j k : ℕ) → 1 ≤ z.bytes → Parted (λ o. true) v →
+      (MadeIn (does Cpu fresh act) (event Cpu fresh act) z v es j k → among k (offspring Cpu fresh act (run Cpu fresh act z v es) (run Cpu fresh act z v es).births (j ∷ [])) ≡ true) ×
+      (among k (offspring Cpu fresh act (run Cpu fresh act z v es) (run Cpu fresh act z v es).births (j ∷ [])) ≡ true → MadeIn (does Cpu fresh act) (event Cpu fresh act) z v es j k)
+
+  -- object t goes with pool u: it was cut from it, or from one that goes with it
+  pub data GoesWith (w : World Cpu) (u : ℕ) : ℕ → Type 0 where
+    cut_from : {t : ℕ} → from_of Cpu fresh act (object Cpu fresh act w t) ≡ suc u → GoesWith w u t
+    cut_on : {i t : ℕ} → GoesWith w u i → from_of Cpu fresh act (object Cpu fresh act w t) ≡ suc i → GoesWith w u t
+
+  -- why a slot of object o that held a capability to object t with birth k is another once one with birth j was revoked at the end of a row of events from world v, which left world x:
+  -- k was made from j in that row, or t is gone, or o is
+  pub data Taken (z : Sizes) (v : World Cpu) (es : List Event) (x : World Cpu) (j k t o : ℕ) : Type 0 where
+    was_made : MadeIn (does Cpu fresh act) (event Cpu fresh act) z v es j k → Taken z v es x j k t o
+    leads_to_gone : object Cpu fresh act x t ≡ gone → Taken z v es x j k t o
+    is_in_gone : object Cpu fresh act x o ≡ gone → Taken z v es x j k t o
+
+  -- what a revoke that came back with 0 takes, and that it takes nothing else: of a pool all that goes with it is gone; no other object goes, and where it is no pool none;
+  -- and a slot holds what it held unless that was made from what was revoked, or leads to what is gone, or is in it
+  unfoldable pub RevokeTakes : Type 0
+  RevokeTakes =
+      (z : Sizes) (v x : World Cpu) (es : List Event) (p s u b j m : ℕ) (r : Rights) → 1 ≤ z.bytes → Parted (λ o. true) v →
+      slot Cpu fresh act (run Cpu fresh act z v es) p s ≡ cap u r b j m → does Cpu fresh act z (run Cpu fresh act z v es) p (revoke s) ≡ on x (0 ∷ []) →
+      ((t : ℕ) → is_pool Cpu fresh act (object Cpu fresh act (run Cpu fresh act z v es) u) ≡ true → GoesWith (run Cpu fresh act z v es) u t → object Cpu fresh act x t ≡ gone) ×
+      ((t : ℕ) → object Cpu fresh act (run Cpu fresh act z v es) t ≢ gone → object Cpu fresh act x t ≡ gone →
+      (is_pool Cpu fresh act (object Cpu fresh act (run Cpu fresh act z v es) u) ≡ true) × GoesWith (run Cpu fresh act z v es) u t) ×
+      ((o i t c k n : ℕ) (q : Rights) → slice_index_or (slots_of Cpu fresh act (object Cpu fresh act (run Cpu fresh act z v es) o)) i empty ≡ cap t q c k n →
+      slice_index_or (slots_of Cpu fresh act (object Cpu fresh act x o)) i empty ≢ cap t q c k n → Taken z v es x j k t o)
+
+  -- WHAT STANDS CUT. What an object that stands costs
+  unfoldable pub cost_of : Sizes → Object Cpu → ℕ
+  cost_of z gone = 0
+  cost_of z (pool f n u) = n
+  cost_of z (table f ss) = length ss * 64
+  cost_of z (port f ws) = 64
+  cost_of z (page f bs) = z.bytes
+  cost_of z (thread f s c t ps rs) = 0
+  cost_of z (line xs ys) = 0
+
+  -- what the objects that were cut from the pool with the number f - 1 cost together
+  unfoldable pub standing : Sizes → ℕ → List (Object Cpu) → ℕ
+  standing z f [] = 0
+  standing z f (x ∷ xs) = pick (from_of Cpu fresh act x == f) (cost_of z x) 0 + standing z f xs
+
+  -- from a start of right kinds at which nothing is cut, what is used of a pool covers what stands cut from it, however events are run
+  unfoldable pub UsedCoversIn : (Sizes → World Cpu → List Event → World Cpu) → Type 0
+  UsedCoversIn running =
+      (z : Sizes) (v : World Cpu) (es : List Event) (o f n u : ℕ) → 1 ≤ z.bytes → Kinds v → ((t : ℕ) → from_of Cpu fresh act (object Cpu fresh act v t) ≡ 0) →
+      object Cpu fresh act (running z v es) o ≡ pool f n u → standing z (suc o) (running z v es).objects ≤ u
+
+  -- what is used of a pool covers what stands cut from it; and what is cut stands for what it cost
+  unfoldable pub UsedCovers : Type 0
+  UsedCovers = UsedCoversIn (run Cpu fresh act) × ((z : Sizes) (f : ℕ) (k : Kind) → cost_of z (made Cpu fresh act z f k) ≡ cost z k)
+
+-- a number is a multiple of another
+unfoldable pub Multiple : ℕ → ℕ → Type 0
+Multiple s m = (k : ℕ) × (m ≡ k * s)
+
+-- filling up goes to the least multiple that is not below: it is one, it is not below, and no smaller one is; and kinds are filled up to multiples of something
+unfoldable pub FillsUpLeast : Type 0
+FillsUpLeast =
+    ((s n : ℕ) → 0 < s → Multiple s (up_to s n) × (n ≤ up_to s n) × ((m : ℕ) → Multiple s m → n ≤ m → up_to s n ≤ m)) ×
+    ((z : Sizes) (k : Kind) → 1 ≤ z.bytes → 0 < step_of z k)
+
 -- PORTS: who is met, and what comes back. What happens at ports is noted event by event, and the laws are about what was noted
 
 -- what is noted of a port: a thread comes to send, with a badge and words; a thread comes to receive; a sender and a receiver meet, and badge and words go over
@@ -408,3 +512,30 @@ module _ (Cpu : Type 0) (fresh : ℕ → Cpu) (act : Cpu → (ℕ → ℕ) → A
       ((z : Sizes) (w : World Cpu) (p f a s d : ℕ) (c : Cpu) (ps : List ℕ) (rs : List Bool) (then : List ℕ → Cpu) → object Cpu fresh act w p ≡ thread f ready c a ps rs →
       act c (seen Cpu fresh act z w ps) ≡ call (receive s d) then →
       ReceiveBack (event_noted z w (tick p)) (event Cpu fresh act z w (tick p)) p f (port_at w p s) then)
+
+  -- thread t, which waited at port o in world w, goes on in world v with words ws
+  unfoldable pub Woken : World Cpu → World Cpu → ℕ → ℕ → List ℕ → Type 0
+  Woken w v o t ws =
+      (f : ℕ) × (a : ℕ) × (b : ℕ) × (c : Cpu) × (ps : List ℕ) × (qs : List ℕ) × (rs : List Bool) × (ms : List Bool) × (then : List ℕ → Cpu) ×
+      (object Cpu fresh act w t ≡ thread f (waits o then) c a ps rs) × (object Cpu fresh act v t ≡ thread f ready (then ws) b qs ms)
+
+  -- thread t, which was ready in world w, made a call in event e, and goes on in world v with words ws
+  unfoldable pub Replied : Sizes → World Cpu → World Cpu → Event → ℕ → List ℕ → Type 0
+  Replied z w v e t ws =
+      (f : ℕ) × (a : ℕ) × (b : ℕ) × (c : Cpu) × (d : Call) × (ps : List ℕ) × (qs : List ℕ) × (rs : List Bool) × (ms : List Bool) × (then : List ℕ → Cpu) × (e ≡ tick t) ×
+      (object Cpu fresh act w t ≡ thread f ready c a ps rs) × (act c (seen Cpu fresh act z w ps) ≡ call d then) × (object Cpu fresh act v t ≡ thread f ready (then ws) b qs ms)
+
+  -- t, who sent badge b and words ws at port o, and q, who received them, both go on in event e: t with 0, q with 0, the badge and the words
+  pub data BothGoOn (z : Sizes) (w v : World Cpu) (e : Event) (o t q b : ℕ) (ws : List ℕ) : Type 0 where
+    sender_waited : Woken w v o t (0 ∷ []) → Replied z w v e q (0 ∷ b ∷ ws) → BothGoOn z w v e o t q b ws
+    receiver_waited : Replied z w v e t (0 ∷ []) → Woken w v o q (0 ∷ b ∷ ws) → BothGoOn z w v e o t q b ws
+
+  -- whoever meets goes on in that very event: if a meeting is noted in it, one of the two waited there and the other made a call, and both go on.
+  -- happening and running say what an event and a row of events do: in the law as in this world, elsewhere they are faulty
+  unfoldable pub MetGoOnIn : (Sizes → World Cpu → Event → World Cpu) → (Sizes → World Cpu → List Event → World Cpu) → Type 0
+  MetGoOnIn happening running =
+      (z : Sizes) (v : World Cpu) (es : List Event) (e : Event) (o t q b : ℕ) (ws : List ℕ) (ns ms : List Note) → 1 ≤ z.bytes → Parted Cpu fresh act (λ o. true) v → Kinds Cpu fresh act v →
+      event_noted z (running z v es) e ≡ ns ++ meets o t q b ws ∷ ms → BothGoOn z (running z v es) (happening z (running z v es) e) e o t q b ws
+
+  unfoldable pub MetGoOn : Type 0
+  MetGoOn = MetGoOnIn (event Cpu fresh act) (run Cpu fresh act)
