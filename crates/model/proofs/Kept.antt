@@ -14,7 +14,7 @@ use Rattle.model.specs.Sound.{Sound}
 use Rattle.model.proofs.Lists.{wrote}
 use Rattle.model.proofs.Keeping.{Fit, by_thread, by_line, same_fit, line_fit, thread_fit}
 
-by_cond : {A : Type 0} (P : A → Type 0) (b : Bool) (x y : A) → P x → P y → P (cond b x y)
+pub by_cond : {A : Type 0} (P : A → Type 0) (b : Bool) (x y : A) → P x → P y → P (cond b x y)
 by_cond P true x y h k = h
 by_cond P false x y h k = k
 

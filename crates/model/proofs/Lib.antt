@@ -13,3 +13,5 @@ pub mod Happens
 pub mod Small
 pub mod Keeping
 pub mod Kept
+pub mod Stays
+pub mod Lasting

@@ -1,5 +1,5 @@
 -- The program's world and the abstract world go step by step alike. Assumes nothing: these are statements.
-use Rattle.std.specs.Prelude.{◌≡◌, ℕ}
+use Rattle.std.specs.Prelude.{◌≡◌, ℕ, List, [], ◌∷◌}
 use Rattle.rights.specs.declared.calls.Call.{Call}
 use Rattle.rights.specs.Request.{call_of}
 use Rattle.rights.specs.World as w
@@ -21,3 +21,20 @@ abbrev pub EventsAgree : Type 0
 EventsAgree =
     ((v u : Whole) → Sound v → (p : ℕ) → Ticked v p u → world_of u ≡ w.event Cpu fresh act sizes (world_of v) (w.tick p))
     × ((v : Whole) (o b : ℕ) → world_of (with_object v o (comes_in b (object v o))) ≡ w.event Cpu fresh act sizes (world_of v) (w.byte o b))
+
+-- and a sound world stays sound, whatever happens
+abbrev pub StaysSound : Type 0
+StaysSound =
+    ((v u : Whole) → Sound v → (p : ℕ) → Ticked v p u → Sound u)
+    × ((v : Whole) (o b : ℕ) → Sound v → Sound (with_object v o (comes_in b (object v o))))
+
+-- u is what is left of v once a row of events has happened
+unfoldable pub Ran : Whole → List w.Event → Whole → Type 0
+Ran v [] u = u ≡ v
+Ran v (w.tick p ∷ es) u = (m : Whole) × Ticked v p m × Ran m es u
+Ran v (w.byte o b ∷ es) u = Ran (with_object v o (comes_in b (object v o))) es u
+
+-- so whole rows do what the abstract world does
+abbrev pub RowsAgree : Type 0
+RowsAgree =
+    (v u : Whole) → Sound v → (es : List w.Event) → Ran v es u → (world_of u ≡ w.run Cpu fresh act sizes (world_of v) es) × Sound u

@@ -19,4 +19,4 @@ mod threads;
 pub use ends::{CallError, Outcome, Refused};
 pub use marks::Marks;
 pub use objects::{Capability, Fault, Letter, Mapping, Object, State, Thread, Wait, World};
-pub use theorems::{calls_agree, events_agree, small_is_sound};
+pub use theorems::{calls_agree, events_agree, rows_agree, small_is_sound, stays_sound};

@@ -1,6 +1,6 @@
 // The program's world and the abstract world go step by step alike.
 ghost use Rattle.model.specs.Example.{SmallIsSound};
-ghost use Rattle.model.specs.Same.{CallsAgree, EventsAgree};
+ghost use Rattle.model.specs.Same.{CallsAgree, EventsAgree, RowsAgree, StaysSound};
 
 // Every call does what the abstract world does.
 pub fn calls_agree()
@@ -10,6 +10,16 @@ pub fn calls_agree()
 // So does an instruction's time for a thread, and a byte that comes in at a line.
 pub fn events_agree()
     ensures { EventsAgree }
+{}
+
+// A sound world stays sound, whatever happens.
+pub fn stays_sound()
+    ensures { StaysSound }
+{}
+
+// Whole rows of events do what the abstract world does.
+pub fn rows_agree()
+    ensures { RowsAgree }
 {}
 
 // What these ask of a world can be met.
