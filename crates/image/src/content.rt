@@ -80,7 +80,7 @@ impl Image<'_> {
     }
 
     // The same, if object `o` is of that kind.
-    fn part(&self, kind: Kind, o: u16, at: usize) -> Result<usize, Refusal>
+    pub fn part(&self, kind: Kind, o: u16, at: usize) -> Result<usize, Refusal>
         ensures { result ≡ format.part self.now.bytes.now self.now.objects kind o at }
     {
         if is_a(self.bytes, o, kind) {
@@ -91,7 +91,7 @@ impl Image<'_> {
     }
 
     // What all objects of a kind have, in their order.
-    fn section(&self, kind: Kind, at: usize) -> Result<usize, Refusal>
+    pub fn section(&self, kind: Kind, at: usize) -> Result<usize, Refusal>
         ensures { result ≡ format.section self.now.bytes.now self.now.objects kind at }
     {
         (0..self.objects).try_fold(at, |at, o| self.part(kind, o, at))

@@ -13,8 +13,10 @@ mod theorems;
 mod verdicts;
 
 pub use census::{Census, Kinds};
+pub use fields::{one, two};
 pub use files::{EVENTS_LIMIT, IMAGE_LIMIT, Inputs, Part, Unreadable};
 pub use frames::{frames_for, place_of};
+pub use headers::{Image, head_at, kind_of, size_at};
 pub use limits::{check_events_part, check_part};
 pub use rows::check_events;
 pub use theorems::{

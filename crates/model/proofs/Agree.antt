@@ -77,7 +77,7 @@ table_world _ = refl
 pub tables : (v : p.Whole) (q : ℕ) → number_of (p.table_of (p.object v q)) ≡ table_of (object (world_of v) q)
 tables v q = table_world (p.object v q) ∙ ap table_of (at_world v q)
 
-slot_at_world : (x : p.Thing) (s : ℕ) → slot_of (p.slot_at x s) ≡ get_or (slots_of (object_of x)) s w.empty
+pub slot_at_world : (x : p.Thing) (s : ℕ) → slot_of (p.slot_at x s) ≡ get_or (slots_of (object_of x)) s w.empty
 unfolding w.slots_of
 slot_at_world (p.table f ss) s = read_any slot_of ss s None
 slot_at_world _ s = refl

@@ -1,0 +1,57 @@
+// A small image, worked out by hand from the format: a line, a table of one slot and a thread.
+use crate::{StartError, start};
+use model::{Capability, Object, State};
+use rights::{Refusal, Rights};
+
+// The headers are at 6, the slot at 15, and the thread at 22: its table there, its space from 24 on,
+// its ready mark at 216 and its pc at 217.
+const BEGIN: &[u8; 24] = b"HOLD\x03\0\x05\0\0\x01\x01\0\x04\0\0\x01\0\x05\x09\0\0\0\x02\0";
+
+fn small() -> [u8; 221] {
+    let mut image = [0; 221];
+    image[..24].copy_from_slice(BEGIN);
+    image[216] = 1;
+    image[217] = 16;
+    image
+}
+
+#[test]
+fn starts_small(rt: HostRuntime) {
+    let Ok(world) = start(rt.alloc(), &small(), 1) else {
+        panic!(rt; "it is not taken")
+    };
+    assert_eq!(rt;
+        (world.objects.len(), world.births, world.lineage.len()),
+        (3, 1, 0)
+    );
+    let Some(Object::Table { slots, .. }) = world.objects.get(1) else {
+        panic!(rt; "object 1 is no table")
+    };
+    let Ok(rights) = Rights::try_from(5) else {
+        panic!(rt; "5 means no rights")
+    };
+    let held = Capability {
+        object: 0,
+        rights,
+        badge: 9,
+        birth: 1,
+        mother: 0,
+    };
+    assert_eq!(rt; slots.first().copied(), Some(Some(held)));
+    let Some(Object::Thread(thread)) = world.objects.get(2) else {
+        panic!(rt; "object 2 is no thread")
+    };
+    assert_eq!(rt;
+        (thread.state, thread.table, thread.cpu.pc),
+        (State::Ready, Some(1), 16)
+    );
+}
+
+// It ends in the thread, or takes a frame more than there are.
+#[test]
+fn refuses_small(rt: HostRuntime) {
+    let cut = StartError::Refused(Refusal::Length(24));
+    assert_eq!(rt; start(rt.alloc(), BEGIN, 1).err(), Some(cut));
+    let frames = StartError::Refused(Refusal::Frames(1));
+    assert_eq!(rt; start(rt.alloc(), &small(), 0).err(), Some(frames));
+}
