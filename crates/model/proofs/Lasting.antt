@@ -131,14 +131,14 @@ copy_sound v so q s d r b =
 resumed_sound : (v : p.Whole) → Sound v → (t : ℕ) (a : Answer) → Sound (calls.resumed v t a)
 resumed_sound v so t a = put_sound v so t _ (resumed_fit v so t a)
 
-handed_sound : (v : p.Whole) → Sound v → (x : Letter) (q d : ℕ) → Sound (calls.handed v x q d)
-handed_sound v so x q d =
-    by_cond Sound ((x.hands_on && leb x.slot 4095) && (not (is_none (p.slot v x.thread x.slot)) && p.free v q d)) _ v
-    (slot_sound (p.with_slot v q d (p.slot v x.thread x.slot)) x.thread x.slot None (slot_sound v q d (p.slot v x.thread x.slot) so (slot_low v x.thread x.slot so))
-    (none_low (p.with_slot v q d (p.slot v x.thread x.slot)))) so
+handed_sound : (v : p.Whole) → Sound v → (h : Bool) (q s r d : ℕ) → Sound (calls.handed v h q s r d)
+handed_sound v so h q s r d =
+    by_cond Sound (h && (not (is_none (p.slot v q s)) && p.free v r d)) _ v
+    (slot_sound (p.with_slot v r d (p.slot v q s)) q s None (slot_sound v r d (p.slot v q s) so (slot_low v q s so)) (none_low (p.with_slot v r d (p.slot v q s)))) so
 
-met_sound : (v : p.Whole) → Sound v → (o : ℕ) (x : Letter) (q d t : ℕ) (a : Answer) → Sound (calls.resumed (calls.handed (p.with_object v o (calls.served (p.object v o))) x q d) t a)
-met_sound v so o x q d t a = resumed_sound _ (handed_sound _ (put_sound v so o _ (serve_fit v so o)) x q d) t a
+met_sound : (v : p.Whole) → Sound v → (o : ℕ) (x : Letter) (q d t : ℕ) (a : Answer) →
+    Sound (calls.resumed (calls.handed (p.with_object v o (calls.served (p.object v o))) (calls.may_hand_on x) x.thread x.slot q d) t a)
+met_sound v so o x q d t a = resumed_sound _ (handed_sound _ (put_sound v so o _ (serve_fit v so o)) (calls.may_hand_on x) x.thread x.slot q d) t a
 
 waits_sound : (v : p.Whole) → Sound v → (o : ℕ) (u : Wait) → EndsSound (calls.waiting v o u)
 waits_sound v so o u = put_sound v so o _ (join_fit v so o u)
