@@ -1,5 +1,5 @@
 // A small image, worked out by hand from the format: a line, a table of one slot and a thread.
-use crate::{StartError, start};
+use crate::{StartError, run, start};
 use model::{Capability, Object, State};
 use rights::{Refusal, Rights};
 
@@ -54,4 +54,24 @@ fn refuses_small(rt: HostRuntime) {
     assert_eq!(rt; start(rt.alloc(), BEGIN, 1).err(), Some(cut));
     let frames = StartError::Refused(Refusal::Frames(1));
     assert_eq!(rt; start(rt.alloc(), &small(), 0).err(), Some(frames));
+}
+
+// The thread has no page to read its instruction from, and stops; a byte comes in at the line. Object 0
+// is no thread.
+#[test]
+fn runs_small(rt: HostRuntime) {
+    let Ok(world) = run(rt.alloc(), &small(), &[0, 2, 0, 1, 0, 0, 65], 1) else {
+        panic!(rt; "it is not carried out")
+    };
+    let Some(Object::Thread(thread)) = world.objects.get(2) else {
+        panic!(rt; "object 2 is no thread")
+    };
+    assert_eq!(rt; (thread.state, thread.cpu.pc), (State::Stopped, 0));
+    let Some(Object::Line { heard, .. }) = world.objects.first() else {
+        panic!(rt; "object 0 is no line")
+    };
+    assert_eq!(rt; (heard.len(), heard.front().copied()), (1, Some(65)));
+    let event = StartError::Refused(Refusal::Event(3));
+    let row = [0, 2, 0, 0, 0, 0];
+    assert_eq!(rt; run(rt.alloc(), &small(), &row, 1).err(), Some(event));
 }
