@@ -1,4 +1,5 @@
 // Fields: what stands at a place of some bytes, low byte first.
+// Bytes and a place stand beside each other, as a reader of the definitions goes from a place to the next.
 ghost use Rattle.std.specs.Prelude.{◌≡◌};
 ghost use Rattle.image.specs.Fields as fields;
 

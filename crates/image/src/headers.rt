@@ -23,6 +23,9 @@ pub fn head_at(o: u16) -> usize
     6 + 3 * usize::from(o)
 }
 
+// What is asked of an object by its number takes the bytes, not an `Image`: it is asked also where the
+// image says that it has fewer objects.
+
 // Whether object `o` is of a kind, by its header.
 pub fn is_a(image: &[u8], o: u16, kind: Kind) -> bool
     ensures { result ≡ format.is_a image.now o kind }

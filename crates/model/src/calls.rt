@@ -23,7 +23,7 @@ fn copied(c: Capability, rights: Rights, badge: u32, birth: u64) -> Capability
 }
 
 // A thread and the number of a slot stand beside each other, not in a pair: a call names one thread and
-// up to three slots of it.
+// up to two slots of it.
 impl World {
     // What slot `s` of thread `p` holds.
     pub fn held(&self, p: usize, s: u32) -> Result<Capability, Refused>

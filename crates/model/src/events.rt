@@ -47,7 +47,7 @@ impl Object {
         mapping.page
     }
 
-    // The range is tested by hand, since of a get_mut no bytes are known after it.
+    // The range is tested by hand, since of the get_mut of a range no bytes are known after it.
     pub fn store(&mut self, k: usize, width: Width, value: u32)
         ensures { plain.thing self.new ≡ turns.stored k (core.bytes width value) (plain.thing self.old) }
     {
@@ -64,12 +64,14 @@ impl Object {
 }
 
 impl World {
+    // A reader by number; `get` says why.
     pub fn cpu(&self, p: usize) -> Cpu
         ensures { result ≡ turns.cpu_of (plain.object self.now p) }
     {
         self.get(p).map_or(Cpu::fresh(0), Object::cpu)
     }
 
+    // A writer by number; `get_mut` says why.
     pub fn set_thread(&mut self, p: usize, state: State, cpu: Cpu)
         ensures { self.new ≡ turns.with_thread self.old p state cpu }
     {
@@ -78,6 +80,7 @@ impl World {
         }
     }
 
+    // A reader by number; `get` says why.
     pub fn may_store(&self, p: usize, address: u32, size: u32) -> Option<usize>
         ensures { result ≡ turns.may_store (plain.object self.now p) address size }
     {

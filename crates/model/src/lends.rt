@@ -21,6 +21,7 @@ impl World {
         self.objects.get_mut(o)
     }
 
+    // A writer by number; `get_mut` says why.
     pub fn come_in(&mut self, o: usize, b: u8) -> Result<(), Fault>
         ensures { OnOk result (self.new ≡ plain.with_object self.old o (calls.comes_in b (plain.object self.old o))) }
     {

@@ -8,7 +8,8 @@ use crate::objects::{Capability, Fault, Object, World};
 use std::alloc::Global;
 use std::marker::Model;
 
-// What a revoke takes: births after `base` with a mark, and objects with a mark.
+// What a revoke takes: births after `base` with a mark, and objects with a mark. They stand beside the
+// lineage and the objects in their order, are made for one revoke, and go with it.
 #[derive(Drop)]
 pub struct Marks {
     pub base: u64,
@@ -46,7 +47,8 @@ pub fn flag(marks: &[bool], i: usize) -> bool
     marks.get(i).copied().unwrap_or(false)
 }
 
-// The mark of a birth, where marks begin after `base`.
+// The mark of a birth, where marks begin after `base`. Not of a `Marks`: it is asked also while they are
+// made.
 pub fn marked(base: u64, marks: &[bool], birth: u64) -> bool
     ensures { result ≡ sweeps.marked base marks.now birth }
 {

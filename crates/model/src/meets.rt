@@ -86,6 +86,7 @@ impl Object {
 }
 
 impl World {
+    // A reader by number; `get` says why.
     pub fn first(&self, o: usize) -> Result<Option<Wait>, Refused>
         ensures { result_ok result ≡ calls.first (plain.object self.now o) }
     {
@@ -93,6 +94,7 @@ impl World {
     }
 
     // One more waits at a port.
+    // A writer by number; `get_mut` says why.
     pub fn wait_at(&mut self, o: usize, who: Wait) -> Result<Outcome, Fault>
         ensures { IfOk result (λ e. plain.ended self.new e ≡ calls.waiting self.old o who) }
     {
@@ -102,6 +104,7 @@ impl World {
         Ok(Outcome::Waiting(o))
     }
 
+    // A writer by number; `get_mut` says why.
     pub fn serve(&mut self, o: usize)
         ensures { self.new ≡ plain.with_object self.old o (calls.served (plain.object self.old o)) }
     {
@@ -110,6 +113,7 @@ impl World {
         }
     }
 
+    // A writer by number; `get_mut` says why.
     pub fn resume(&mut self, t: usize, answer: Answer)
         ensures { self.new ≡ calls.resumed self.old t answer }
     {

@@ -31,7 +31,7 @@ impl Object {
         ensures { result ≡ plain.has_at (plain.thing self.now) s }
     {
         match self {
-            Object::Table { slots, .. } => (s as usize) < slots.len(),
+            Object::Table { slots, .. } => slots.get(s as usize).is_some(),
             _ => false,
         }
     }

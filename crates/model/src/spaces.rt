@@ -19,6 +19,7 @@ impl Object {
 }
 
 impl World {
+    // A reader by number; `get` says why.
     pub fn byte(&self, o: usize, k: usize) -> u8
         ensures { result ≡ turns.byte_in (plain.object self.now o) k }
     {

@@ -112,6 +112,7 @@ impl Object {
         }
     }
 
+    // What `set_used(0)` does, by the name of what it means; through that it is as long.
     pub fn refill(&mut self)
         ensures { plain.thing self.new ≡ sweeps.refilled (plain.thing self.old) }
     {

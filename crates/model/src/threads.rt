@@ -1,4 +1,4 @@
-// What a call does to a thread, and tests of an object. Each test of the state and of the place stands where
+// What a call does to a thread, and tests of an object, which differ by a variant that no parameter can name. Each test of the state and of the place stands where
 // it is needed: a method that lends the thread would want clauses for the borrow, and is no plainer. A
 // place is held against 64 by hand, since of the get_mut of an array no element is known after it.
 ghost use Rattle.std.specs.Prelude.{◌≡◌};

@@ -66,6 +66,7 @@ impl Cpu {
     }
 
     // Goes on after a call: the words that come back are in x10 to x15, the others stay.
+    // The words are those of `Answer::word`, which would be asked of each whether it is there.
     pub fn resume(&mut self, answer: Answer)
         ensures { self.new ≡ spec.returned self.old (words answer) }
     {
