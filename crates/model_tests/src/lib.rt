@@ -3,5 +3,4 @@
 
 #[cfg(test)]
 mod rows;
-#[cfg(test)]
 mod start;

@@ -28,7 +28,12 @@ fn page(heap: Global, bytes: &[u8], count: usize, at: usize) -> Result<Vec<u8>, 
 }
 
 // Object `o`, if what it has begins at these places.
-pub fn object(heap: Global, bytes: &[u8], o: u16, places: &Places) -> Result<Object, AllocError>
+pub(crate) fn object(
+    heap: Global,
+    bytes: &[u8],
+    o: u16,
+    places: &Places,
+) -> Result<Object, AllocError>
     requires { reading.Low places.now × (places.now.born ≤ 2 ^ 63) }
     ensures same { IfOk result (λ object. model.object_of (plain.thing object) ≡ meaning.object_at bytes.now o (reading.seen places.now)) }
     ensures few { IfOk result (λ object. reading.births (model.object_of (plain.thing object)) < 65536) }
@@ -71,7 +76,7 @@ fn held(slots: &[Option<Capability>]) -> usize
 
 // How many capabilities are in an object's slots.
 #[tactic(auto, using(crate::proofs::Made::counted), unfolding(rights::specs::World::slots_of, image::specs::Meaning::births_of))]
-pub fn births(object: &Object) -> u64
+pub(crate) fn births(object: &Object) -> u64
     ensures { result ≡ reading.births (model.object_of (plain.thing object.now)) }
 {
     match object {

@@ -18,7 +18,7 @@ pub struct Places {
 
 impl Places {
     // Tables' slots begin after the headers, pages' bytes after them, and threads after these.
-    pub fn first(image: &Image<'_>) -> Places
+    pub(crate) fn first(image: &Image<'_>) -> Places
         ensures same { reading.seen result ≡ meaning.first_places image.now.bytes.now image.now.objects }
         ensures low { reading.Low result }
     {
@@ -34,7 +34,7 @@ impl Places {
     }
 
     // The places after object `o`, in whose slots so many capabilities were born.
-    pub fn after(&self, image: &Image<'_>, o: u16, births: u64) -> Places
+    pub(crate) fn after(&self, image: &Image<'_>, o: u16, births: u64) -> Places
         requires { reading.Low self.now × (self.now.born + births < 2 ^ 64) }
         ensures same { reading.seen result ≡ reading.after image.now.bytes.now image.now.objects o (reading.seen self.now) births }
         ensures low { reading.Low result }

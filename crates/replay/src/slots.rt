@@ -11,7 +11,7 @@ use rights::Rights;
 use std::alloc::{AllocError, Global};
 
 // The number of four bytes at `at`.
-pub fn four(bytes: &[u8], at: usize) -> u32
+pub(crate) fn four(bytes: &[u8], at: usize) -> u32
     requires { at + 3 < 2 ^ 64 }
     ensures { result ≡ meaning.four bytes.now at }
 {
@@ -49,7 +49,7 @@ fn slot(bytes: &[u8], at: usize, birth: u64) -> Option<Capability>
 }
 
 // The `count` slots from `at` on, if `born` capabilities were born before.
-pub fn slots(
+pub(crate) fn slots(
     heap: Global,
     bytes: &[u8],
     count: usize,

@@ -18,7 +18,7 @@ use model::{Fault, World};
 use std::alloc::{AllocError, Global};
 
 // The world that some bytes mean, whether they are taken or not.
-pub fn world(heap: Global, bytes: &[u8]) -> Result<World, AllocError>
+pub(crate) fn world(heap: Global, bytes: &[u8]) -> Result<World, AllocError>
     ensures { IfOk result (λ world. meant world ≡ meaning.world_of bytes.now) }
 {
     let image = Image {

@@ -48,7 +48,7 @@ fn space(bytes: &[u8], at: usize) -> [Mapping; 64]
 }
 
 // The thread at `at`.
-pub fn thread(bytes: &[u8], at: usize) -> Thread
+pub(crate) fn thread(bytes: &[u8], at: usize) -> Thread
     requires { at ≤ 2 ^ 63 }
     ensures { model.object_of (plain.thread result) ≡ reading.thread bytes.now at }
 {
