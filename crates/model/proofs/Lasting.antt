@@ -50,9 +50,6 @@ length_over k bs old h =
     omega (arith, a, b, c, d, h)
 
 -- FITS that are left
-clash : ◌≡◌ {A = ℕ} 0 1 → ⊥
-clash z = omega arith
-
 module _ (v : p.Whole) (so : Sound v) (o : ℕ) where
   used_fit : (a : ℕ) → Fit v (p.object v o) (cuts.with_used a (p.object v o))
   used_fit a = by_pool (Fit v (p.object v o)) (p.object v o) (p.object v o) _ (same_fit v so o) (λ f n u e. subst (λ x. Fit v x (p.pool f n a)) (sym e) (pool_fit v f n u n a))
@@ -80,7 +77,7 @@ only_some f (Some d) c e = by (f d) e
   where
     by : (b : Bool) → cond b (Some d) None ≡ Some c → Some d ≡ Some c
     by true h = h
-    by false h = absurd (clash (cc))
+    by false h = (cc)
 
 say_sound : (v : p.Whole) → Sound v → (q s b : ℕ) → EndsSound (calls.say v q s b)
 say_sound v so q s b = by_some EndsSound (calls.writable v q s) (p.refuse v) _ so (λ c e. put_sound v so c.object _ (says_fit v so c.object (b % 256)))
@@ -165,13 +162,13 @@ receive_sound v so q s d =
 
 -- POOLS
 room_pool : (k : NewObject) (x : p.Thing) (a : ℕ) → cuts.room_in k x ≡ Some a → x ≡ p.gone → ⊥
-room_pool k p.gone a e h = clash (cc)
-room_pool k (p.pool f n u) a e h = clash (cc)
-room_pool k (p.table f ss) a e h = clash (cc)
-room_pool k (p.port f q) a e h = clash (cc)
-room_pool k (p.page f bs) a e h = clash (cc)
-room_pool k (p.thread t) a e h = clash (cc)
-room_pool k (p.line xs ys) a e h = clash (cc)
+room_pool k p.gone a e h = (cc)
+room_pool k (p.pool f n u) a e h = (cc)
+room_pool k (p.table f ss) a e h = (cc)
+room_pool k (p.port f q) a e h = (cc)
+room_pool k (p.page f bs) a e h = (cc)
+room_pool k (p.thread t) a e h = (cc)
+room_pool k (p.line xs ys) a e h = (cc)
 
 is_there : (v : p.Whole) (o : ℕ) → (p.object v o ≡ p.gone → ⊥) → o < length v.things
 unfolding p.object

@@ -23,7 +23,7 @@ by_true P true x y h k = h refl
 by_true P false x y h k = k
 
 none_some : {X : Type 0} (x : X) → ◌≡◌ {A = Option X} None (Some x) → ⊥
-none_some x e = let z : ◌≡◌ {A = ℕ} 0 1 = cc in omega arith
+none_some x e = cc
 
 -- SLOTS. What may be put into one was born
 abbrev pub Low : p.Whole → Option Capability → Type 0
@@ -118,31 +118,24 @@ nothing_in zero k = refl
 nothing_in (suc n) zero = refl
 nothing_in (suc n) (suc k) = nothing_in n k
 
--- two constructors are not one
-abbrev Clash : Type 0
-Clash = ◌≡◌ {A = ℕ} 0 1
-
-clash : Clash → ⊥
-clash z = omega arith
-
 pub new_is_new : (v : p.Whole) (o : ℕ) (k : NewObject) → o < length v.things → New v (calls.new_thing o k)
 new_is_new v o (new.Pool n) l =
-    record { from = λ f e. (let q : o ≡ f = cc in omega arith); slots = λ s c e. none_some c e; full = λ f bs e. absurd (clash (cc)); space = λ t e. clash (cc) }
+    record { from = λ f e. (let q : o ≡ f = cc in omega arith); slots = λ s c e. none_some c e; full = λ f bs e. (cc); space = λ t e. (cc) }
 new_is_new v o (new.Table n) l =
     record {
       from = λ f e. (let q : o ≡ f = cc in omega arith);
       slots = λ s c e. none_some c (sym (nothing_in n s) ∙ e);
-      full = λ f bs e. absurd (clash (cc));
-      space = λ t e. clash (cc);
+      full = λ f bs e. (cc);
+      space = λ t e. (cc);
     }
 new_is_new v o new.Port l =
-    record { from = λ f e. (let q : o ≡ f = cc in omega arith); slots = λ s c e. none_some c e; full = λ f bs e. absurd (clash (cc)); space = λ t e. clash (cc) }
+    record { from = λ f e. (let q : o ≡ f = cc in omega arith); slots = λ s c e. none_some c e; full = λ f bs e. (cc); space = λ t e. (cc) }
 new_is_new v o new.Page l =
     record {
       from = λ f e. (let q : o ≡ f = cc in omega arith);
       slots = λ s c e. none_some c e;
       full = λ f bs e. (let q : replicate 4096 0 ≡ bs = cc in ap length (sym q) ∙ length-replicate {A = ℕ} 4096 0);
-      space = λ t e. clash (cc);
+      space = λ t e. (cc);
     }
 
 -- SWEEPING
@@ -193,20 +186,20 @@ page_kept k (p.line xs ys) = refl
 page_back : (k : Marks) (x : p.Thing) (f : Option ℕ) (bs : List ℕ) → kept k x ≡ p.page f bs → x ≡ p.page f bs
 page_back k p.gone f bs e = e
 page_back k (p.pool g n u) f bs e = e
-page_back k (p.table g ss) f bs e = absurd (clash (cc))
-page_back k (p.port g q) f bs e = absurd (clash (cc))
+page_back k (p.table g ss) f bs e = (cc)
+page_back k (p.port g q) f bs e = (cc)
 page_back k (p.page g cs) f bs e = e
-page_back k (p.thread t) f bs e = absurd (clash (cc))
+page_back k (p.thread t) f bs e = (cc)
 page_back k (p.line xs ys) f bs e = e
 
 thread_back : (k : Marks) (x : p.Thing) (t : Thread) → kept k x ≡ p.thread t → (u : Thread) × (x ≡ p.thread u) × (kept_thread k u ≡ t)
-thread_back k p.gone t e = absurd (clash (cc))
-thread_back k (p.pool g n u) t e = absurd (clash (cc))
-thread_back k (p.table g ss) t e = absurd (clash (cc))
-thread_back k (p.port g q) t e = absurd (clash (cc))
-thread_back k (p.page g cs) t e = absurd (clash (cc))
+thread_back k p.gone t e = (cc)
+thread_back k (p.pool g n u) t e = (cc)
+thread_back k (p.table g ss) t e = (cc)
+thread_back k (p.port g q) t e = (cc)
+thread_back k (p.page g cs) t e = (cc)
 thread_back k (p.thread u) t e = (u, refl, (cc))
-thread_back k (p.line xs ys) t e = absurd (clash (cc))
+thread_back k (p.line xs ys) t e = (cc)
 
 number_back : (k : Marks) (m : Option ℕ) (n : ℕ) → kept_number k m ≡ Some n → (m ≡ Some n) × (takes k n ≡ false)
 number_back k None n e = absurd (none_some n e)
@@ -230,8 +223,8 @@ swept_sound v k so =
           (ap (λ y. p.slot_at y s) (sym (swept_at v k o)) ∙ h);
       after = λ o f h. kept_at_back k o (p.object v o) (λ y. p.from_of y ≡ Some f) (λ e. absurd (none_some f e)) (λ g e. so.after o f (sym (from_kept k (p.object v o)) ∙ e))
           (ap p.from_of (sym (swept_at v k o)) ∙ h);
-      full = λ o f bs h. kept_at_back k o (p.object v o) (λ y. y ≡ p.page f bs) (λ e. absurd (clash (cc))) (λ g e. so.full o f bs (page_back k (p.object v o) f bs e)) (sym (swept_at v k o) ∙ h);
-      paged = λ q j o t e h. kept_at_back k q (p.object v q) (λ y. y ≡ p.thread t) (λ e. absurd (clash (cc))) (λ g e. by q j o t (thread_back k (p.object v q) t e) h) (sym (swept_at v k q) ∙ e);
+      full = λ o f bs h. kept_at_back k o (p.object v o) (λ y. y ≡ p.page f bs) (λ e. (cc)) (λ g e. so.full o f bs (page_back k (p.object v o) f bs e)) (sym (swept_at v k o) ∙ h);
+      paged = λ q j o t e h. kept_at_back k q (p.object v q) (λ y. y ≡ p.thread t) (λ e. (cc)) (λ g e. by q j o t (thread_back k (p.object v q) t e) h) (sym (swept_at v k q) ∙ e);
     }
   where
     still : (o : ℕ) → takes k o ≡ false → calls.is_page (p.object v o) ≡ true → calls.is_page (p.object (swept v k) o) ≡ true
