@@ -18,10 +18,11 @@ use Rattle.image.specs.Format.{head_at, names, magic, count, headers, body, sect
 use Rattle.image.specs.Layout.{frames_for}
 use Rattle.std.specs.List.{zip}
 use Rattle.image.specs.Meaning.{Places, objects_from, objects_of, births_all, world_of, kind_of, frames}
+use Rattle.image.specs.Prefix.{content_lengths}
 use Rattle.image.specs.Verdict.{verdict}
 use Rattle.image.specs.Allowed.{MeansAllowed}
 use Rattle.image.proofs.Decided.{count_back}
-use Rattle.image.proofs.Sized.{then_back, judged_back}
+use Rattle.image.proofs.Sized.{then_back, judged_back, body_adds, length_by_headers}
 use Rattle.image.proofs.Stands.{Alls, alls_at}
 use Rattle.image.proofs.Slots.{GoodSlot}
 use Rattle.image.proofs.Spaces.{GoodMap}
@@ -129,17 +130,22 @@ module _ (bs : List ℕ) (n : ℕ) (w : World Cpu) (long : length w.objects ≡ 
     its_pages = λ o f t k u s c ps rs e h. let m = page_named o f t k u s c ps rs e h in a_page (its u) (sym (placed_at u m.0).0.0 ∙ m.1);
   }
 
--- what was read of an image that is taken
-record ReadThrough (ks : Kinds) (bs : List ℕ) (n p h end : ℕ) (c : Census) : Type 0 where
-  number_is : two bs 4 ≡ n
-  few : n ≤ 1000
-  headers_are : headers ks bs n ≡ Ok c
-  tables_are : section bs n Table (head_at n) ≡ Ok p
-  pages_are : section bs n Page p ≡ Ok h
-  threads_are : section bs n Thread h ≡ Ok end
-  fits : frames_for bs n ≤ 4096
+magic_four : (bs : List ℕ) (a : ℕ) → magic bs ≡ Ok a → a ≡ 4
+magic_four bs a e = grind (arith, nat_tests)
 
-read_through : (ks : Kinds) (lent : ℕ) (bs : List ℕ) (c : Census) → verdict ks lent bs ≡ Ok c → (n : ℕ) × (p : ℕ) × (h : ℕ) × (end : ℕ) × ReadThrough ks bs n p h end c
+-- what was read of an image that is taken
+pub record ReadThrough (ks : Kinds) (lent : ℕ) (bs : List ℕ) (n p h end : ℕ) (c : Census) : Type 0 where
+  pub magic_is : magic bs ≡ Ok 4
+  pub number_is : two bs 4 ≡ n
+  pub few : n ≤ 1000
+  pub headers_are : headers ks bs n ≡ Ok c
+  pub tables_are : section bs n Table (head_at n) ≡ Ok p
+  pub pages_are : section bs n Page p ≡ Ok h
+  pub threads_are : section bs n Thread h ≡ Ok end
+  pub ends : length bs ≡ end
+  pub fits : frames_for bs n ≤ min lent 4096
+
+pub read_through : (ks : Kinds) (lent : ℕ) (bs : List ℕ) (c : Census) → verdict ks lent bs ≡ Ok c → (n : ℕ) × (p : ℕ) × (h : ℕ) × (end : ℕ) × ReadThrough ks lent bs n p h end c
 read_through ks lent bs c v =
     let a = then_back (magic bs) _ c v in
     let b = then_back (count bs) _ c a.2 in
@@ -157,13 +163,15 @@ read_through ks lent bs c v =
       u.0,
       e.0,
       record {
+        magic_is = a.1 ∙ ap Ok (magic_four bs a.0 a.1);
         number_is = sym k.0;
         few = k.1;
         headers_are = d.1 ∙ ap Ok m;
         tables_are = t.1;
         pages_are = u.1;
         threads_are = u.2;
-        fits = let l = leb-true (frames_for bs n) (min lent 4096) g.0 in omega (arith, l);
+        ends = length_by_headers ks lent bs c v ∙ (ap (λ k. head_at k + content_lengths bs k 0) (sym k.0) ∙ sym (body_adds bs n e.0 e.1));
+        fits = leb-true (frames_for bs n) (min lent 4096) g.0;
       },
     )
 
@@ -177,7 +185,7 @@ means_allowed ks lent z bs c zb zp low v =
     let e : objects_of bs ≡ objects_from bs n n 0 q = rw (r.number_is, r.tables_are, r.pages_are) in
     let w : World Cpu = world_of bs in
     let os : List (Object Cpu) = objects_of bs in
-    let x = subst (λ (xs : List (Object Cpu)). ObjectsRead bs low n n 0 q first c xs) (sym e)
+    let x = subst (λ (xs : List (Object Cpu)). ObjectsRead bs low n ks n 0 q first c xs) (sym e)
     (objects_read bs low n ks n 0 q first c rt.1 rt.2 rt.3 r.headers_are r.tables_are r.pages_are r.threads_are) in
     let ta = x.threads_are in
     let la = x.lines_are in

@@ -49,7 +49,7 @@ slot_back bs n a b e = grind (arith, nat_tests)
 pub mapping_back : (bs : List ℕ) (n a b : ℕ) → mapping bs n a ≡ Ok b → (names bs n (two bs a) Page ≡ true) × (b ≡ a + 3)
 mapping_back bs n a b e = grind (arith, nat_tests)
 
-entries_add : (entry : ℕ → Read ℕ) (width : ℕ) → ((a b : ℕ) → entry a ≡ Ok b → b ≡ a + width) → (count a b : ℕ) → entries entry count a ≡ Ok b → b ≡ a + count * width
+pub entries_add : (entry : ℕ → Read ℕ) (width : ℕ) → ((a b : ℕ) → entry a ≡ Ok b → b ≡ a + width) → (count a b : ℕ) → entries entry count a ≡ Ok b → b ≡ a + count * width
 entries_add entry width adds count a b e =
     let h = each_adds (λ _ p. entry p) (λ _. width) (λ i p q. adds p q) count 0 a b e in
     let s = added_same width count 0 in
@@ -58,7 +58,7 @@ entries_add entry width adds count a b e =
 ready_adds : (bs : List ℕ) (a b : ℕ) → ready_pc bs a ≡ Ok b → b ≡ a + 5
 ready_adds bs a b e = grind (arith, nat_tests)
 
-state_adds : (bs : List ℕ) (n a b : ℕ) → state bs n a ≡ Ok b → b ≡ a + 199
+pub state_adds : (bs : List ℕ) (n a b : ℕ) → state bs n a ≡ Ok b → b ≡ a + 199
 state_adds bs n a b e = grind (arith, nat_tests, entries_add (mapping bs n) 3 (λ p q f. (mapping_back bs n p q f).1) 64, ready_adds bs)
 
 -- how many bytes object o has, if it is of a kind
@@ -79,6 +79,9 @@ share bs k o = cond (is_a bs o k) (of_kind bs k o) 0
 part_adds : (bs : List ℕ) (n : ℕ) (k : Kind) (o a b : ℕ) → part bs n k o a ≡ Ok b → b ≡ a + share bs k o
 part_adds bs n k o a b e = grind (arith, nat_tests, content_adds bs n k o a b)
 
+pub parts_grow : (bs : List ℕ) (n : ℕ) (k : Kind) (m o a b : ℕ) → each (part bs n k) m o a ≡ Ok b → a ≤ b
+parts_grow bs n k m o a b e = omega (arith, each_adds (part bs n k) (share bs k) (part_adds bs n k) m o a b e)
+
 section_adds : (bs : List ℕ) (n : ℕ) (k : Kind) (a b : ℕ) → section bs n k a ≡ Ok b → b ≡ a + added (share bs k) n 0
 section_adds bs n k a b e = each_adds (part bs n k) (share bs k) (part_adds bs n k) n 0 a b e
 
@@ -90,7 +93,7 @@ unfolding added content_lengths
 all_shares bs zero o = refl
 all_shares bs (suc k) o = let s = shares bs o in let h = all_shares bs k (suc o) in omega (arith, s, h)
 
-body_adds : (bs : List ℕ) (n b : ℕ) → body bs n ≡ Ok b → b ≡ head_at n + content_lengths bs n 0
+pub body_adds : (bs : List ℕ) (n b : ℕ) → body bs n ≡ Ok b → b ≡ head_at n + content_lengths bs n 0
 body_adds bs n b e = grind (arith, section_adds bs n, all_shares bs n 0)
 
 -- what the fields were, if all could be read

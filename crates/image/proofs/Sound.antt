@@ -14,12 +14,12 @@ use Rattle.image.specs.declared.census.Census.{Census}
 use Rattle.image.specs.declared.census.Kinds.{Kinds}
 use Rattle.image.specs.Fields.{one, two, each}
 use Rattle.image.specs.Format.{head_at, size_at, counted, right_size, header, slot, entries, state, part}
-use Rattle.image.specs.Meaning.{two_bytes, Places, state_of, read_as, after, object_at, objects_from, stop, ready_mark, slots_from}
+use Rattle.image.specs.Meaning.{two_bytes, Places, state_of, read_as, after, object_at, objects_from, stop, ready_mark, kind_of, slots_from}
 use Rattle.image.proofs.Sized.{then_back}
 use Rattle.image.proofs.Stands.{At, Alls}
 use Rattle.image.proofs.Slots.{Orderly}
 use Rattle.image.proofs.Births.{Orders}
-use Rattle.image.proofs.Objects.{Placed}
+use Rattle.image.proofs.Objects.{LetIn, let_as, Placed}
 use Rattle.image.proofs.Back.{head_back, thread_count, line_count, two_low, four_low, slots_read, bytes_long, bytes_low, state_read}
 
 -- a census after an object
@@ -39,6 +39,9 @@ tally bs o q c d K e = grind (arith, thread_count c d, line_count c d, same_tall
 
 sizes : (s : ℕ) → (ltb 0 s && leb s 4096) ≡ true → (1 ≤ s) × (s ≤ 4096)
 sizes s e = grind (arith, nat_tests)
+
+kind_read_as : (bs : List ℕ) (o : ℕ) (q : Places) (k : Kind) → kind_of (read_as bs o q (Some k)) ≡ kind_number k
+kind_read_as bs o q k = grind arith
 
 state_fine : (m : ℕ) → state_of (ready_mark (state_of m)) ≡ state_of m
 state_fine m = grind (arith, nat_tests)
@@ -89,7 +92,7 @@ module _ (bs : List ℕ) (low : (k : ℕ) → get_or bs k 0 < 256) (n : ℕ) whe
   object_read o q a h Line k s l ta th = ((head_stands o 5 0 l k (eqb-true (size_at bs o) 0 s), (refl, refl)), tt)
 
   -- and of all
-  pub record ObjectsRead (k o : ℕ) (q : Places) (c d : Census) (xs : List (Object Cpu)) : Type 0 where
+  pub record ObjectsRead (ks : Kinds) (k o : ℕ) (q : Places) (c d : Census) (xs : List (Object Cpu)) : Type 0 where
     pub long : length xs ≡ k
     pub placed : Alls (Placed bs n) o xs
     pub order : Orders q.born xs
@@ -97,15 +100,16 @@ module _ (bs : List ℕ) (low : (k : ℕ) → get_or bs k 0 < 256) (n : ℕ) whe
     pub lines_are : c.lines + lines Cpu fresh act xs ≡ d.lines
     pub few : (c.threads ≤ 64 → d.threads ≤ 64) × (c.lines ≤ 32 → d.lines ≤ 32)
     pub objects_are : d.objects ≡ c.objects
+    pub let_in : Alls (λ _ x. LetIn ks x) o xs
 
-  none_read : (o : ℕ) (q : Places) (c : Census) → ObjectsRead 0 o q c c []
+  none_read : (ks : Kinds) (o : ℕ) (q : Places) (c : Census) → ObjectsRead ks 0 o q c c []
   unfolding threads lines
-  none_read o q c = record { long = refl; placed = tt; order = tt; threads_are = omega arith; lines_are = omega arith; few = ((λ h. h), (λ h. h)); objects_are = refl }
+  none_read ks o q c = record { long = refl; placed = tt; order = tt; threads_are = omega arith; lines_are = omega arith; few = ((λ h. h), (λ h. h)); objects_are = refl; let_in = tt }
 
   pub objects_read : (ks : Kinds) (k o : ℕ) (q : Places) (c d : Census) (a b h : ℕ) → each (header ks bs) k o c ≡ Ok d → each (part bs n Table) k o q.slots_at ≡ Ok a
-      → each (part bs n Page) k o q.bytes_at ≡ Ok b → each (part bs n Thread) k o q.thread_at ≡ Ok h → ObjectsRead k o q c d (objects_from bs n k o q)
+      → each (part bs n Page) k o q.bytes_at ≡ Ok b → each (part bs n Thread) k o q.thread_at ≡ Ok h → ObjectsRead ks k o q c d (objects_from bs n k o q)
   unfolding each objects_from
-  objects_read ks zero o q c d a b h e f g i = let m : c ≡ d = cc in subst (λ (g : Census). ObjectsRead 0 o q c g []) m (none_read o q c)
+  objects_read ks zero o q c d a b h e f g i = let m : c ≡ d = cc in subst (λ (g : Census). ObjectsRead ks 0 o q c g []) m (none_read ks o q c)
   objects_read ks (suc k) o q c d a b h e f g i =
       let t = then_back (header ks bs o c) (each (header ks bs) k (suc o)) d e in
       let u = then_back (part bs n Table o q.slots_at) (each (part bs n Table) k (suc o)) a f in
@@ -127,4 +131,5 @@ module _ (bs : List ℕ) (low : (k : ℕ) → get_or bs k 0 < 256) (n : ℕ) whe
         lines_are = r.lines_to (objects_from bs n k (suc o) q2) ∙ s.lines_are;
         few = ((λ j. s.few.0 (r.few.0 j)), (λ j. s.few.1 (r.few.1 j)));
         objects_are = s.objects_are ∙ r.objects_to;
+        let_in = (subst (λ m. LetIn ks (read_as bs o q m)) (sym y.kind_read) (let_as ks (read_as bs o q (Some y.kind)) y.kind (kind_read_as bs o q y.kind) y.let_in), s.let_in);
       }

@@ -33,7 +33,7 @@ map_fine bs n i a (p, r) g h =
     let s = map_read bs a p (bit r) g.0 h in
     mapping_ok bs n a s.room (rw s.page_is g.1) (omega (arith, s.mark_is, bit_low r))
 
-maps_length : (xs : List (ℕ × Bool)) → length (flat_map mapping_bytes xs) ≡ 3 * length xs
+pub maps_length : (xs : List (ℕ × Bool)) → length (flat_map mapping_bytes xs) ≡ 3 * length xs
 maps_length xs = pieces_length mapping_bytes 3 (λ x. refl) xs
 
 pub pairs_length : (ps : List ℕ) (rs : List Bool) (k : ℕ) → length ps ≡ k → length rs ≡ k → length (zip ps rs) ≡ k

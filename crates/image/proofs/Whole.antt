@@ -1,5 +1,5 @@
 -- The image of objects that it can carry is taken, and its objects come back.
-use Rattle.std.proofs.Common.{◌≡◌, ℕ, suc, ◌+◌, ◌*◌, ◌/◌, ◌<◌, ◌≤◌, true, false, ◌&&◌, ltb, leb, List, [], ◌∷◌, ◌++◌, length, Some, Ok, sym, refl, ap, ◌∙◌, subst, arith, length-append}
+use Rattle.std.proofs.Common.{◌≡◌, ℕ, suc, ◌+◌, ◌*◌, ◌/◌, ◌<◌, ◌≤◌, min, true, false, ◌&&◌, ltb, leb, List, [], ◌∷◌, ◌++◌, length, Some, Ok, sym, refl, ap, ◌∙◌, subst, arith, length-append}
 use Rattle.std.proofs.lemmas.Bool.{lt-ltb, le-leb}
 use Rattle.std.proofs.lemmas.Bool.Decides.{nat_tests}
 use Rattle.rights.specs.declared.kinds.Kind.{Kind}
@@ -157,7 +157,7 @@ parts bs os w =
       },
     )
 
-encode_length : (os : List (Object Cpu)) → length (encode os) ≡
+pub encode_length : (os : List (Object Cpu)) → length (encode os) ≡
     head_at (length os) + length (flat_map (part_bytes Table) os) + length (flat_map (part_bytes Page) os) + length (flat_map (part_bytes Thread) os)
 encode_length os = grind (arith, length-append, headers_length)
 
@@ -183,14 +183,14 @@ module _ (bs : List ℕ) (os : List (Object Cpu)) (few : length os ≤ 1000) (t 
   frames_are : frames_for bs (length os) ≡ frames os
   frames_are = ap (λ k. (k + 63) / 64) (fills bs (length os) os 0 0 placed)
 
-  pub is_taken : (ks : Kinds) → Alls (λ _ x. LetIn ks x) 0 os → bs ≡ encode os → threads Cpu fresh act os ≤ 64 → lines Cpu fresh act os ≤ 32 → frames os ≤ 4096
-      → (c : Census) × (verdict ks 4096 bs ≡ Ok c)
-  is_taken ks i e a b f =
+  pub is_taken : (ks : Kinds) (lent : ℕ) → Alls (λ _ x. LetIn ks x) 0 os → bs ≡ encode os → threads Cpu fresh act os ≤ 64 → lines Cpu fresh act os ≤ 32 → frames os ≤ min lent 4096
+      → (c : Census) × (verdict ks lent bs ≡ Ok c)
+  is_taken ks lent i e a b f =
       let l = at_len bs 4 (two_bytes (length os)) at.number_at in
       let k : 4 ≤ length bs = omega (arith, l) in
       let z = headers_fine ks bs (length os) os 0 (record { objects = length os; threads = 0; lines = 0 }) placed i (omega (arith, a)) (omega (arith, b)) in
       let j : length bs ≤ h + length (flat_map (part_bytes Thread) os) = omega (arith, ap length e, encode_length os, at.t_is, at.p_is, at.h_is) in
-      (z.0, rw (magic_fine bs k at.h0 at.h1 at.h2 at.h3, count_goes, z.1, body_goes, le-leb (length bs) (h + length (flat_map (part_bytes Thread) os)) j, frames_are, le-leb (frames os) 4096 f))
+      (z.0, rw (magic_fine bs k at.h0 at.h1 at.h2 at.h3, count_goes, z.1, body_goes, le-leb (length bs) (h + length (flat_map (part_bytes Thread) os)) j, frames_are, le-leb (frames os) (min lent 4096) f))
 
   pub objects_come : Orders 0 os → objects_of bs ≡ os
   objects_come o =

@@ -10,3 +10,4 @@ pub mod Instances
 pub mod Meaning
 pub mod Rows
 pub mod Allowed
+pub mod Written

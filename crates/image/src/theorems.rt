@@ -1,9 +1,10 @@
 // Theorems about the definitions, each named by a contract.
 ghost use Rattle.image.specs.Allowed.{Holds, MeansAllowed};
 ghost use Rattle.image.specs.Apart.{LiesApart};
-ghost use Rattle.image.specs.Instances.{Instances};
+ghost use Rattle.image.specs.Instances.{Instances, Spelled};
 ghost use Rattle.image.specs.Prefix.{DecidedEarly, GoesOn, LengthByHeaders, OneLength, LimitHolds, NeverTaken, FaultsTold, EventsLimitHolds, EventFaultsTold};
 ghost use Rattle.image.specs.Rows.{RowsNamed};
+ghost use Rattle.image.specs.Written.{ReadsBack, WritesBack, OneWorld};
 
 // Objects lie apart in the frames, and within as many as are asked for, which are no more than
 // their sizes say.
@@ -67,6 +68,22 @@ pub fn means_allowed()
     ensures { MeansAllowed }
 {}
 
+// The image of an allowed world's objects is taken, and means that world.
+pub fn reads_back()
+    ensures { ReadsBack }
+{}
+
+// The image of the objects that an image means has the same bytes, but for the rights and badges of
+// empty slots; and it is taken alike and means the same world.
+pub fn writes_back()
+    ensures { WritesBack }
+{}
+
+// Two images mean the same world exactly if their bytes are the same but for those.
+pub fn one_world()
+    ensures { OneWorld }
+{}
+
 // Events that are taken name objects of the image: an instruction's time a thread, a byte a line.
 pub fn rows_named()
     ensures { RowsNamed }
@@ -75,4 +92,9 @@ pub fn rows_named()
 // The hypotheses of these can be met.
 pub fn instances()
     ensures { Instances }
+{}
+
+// An image written out byte by byte means the world that is written out beside it.
+pub fn spelled()
+    ensures { Spelled }
 {}

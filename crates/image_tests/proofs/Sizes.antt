@@ -1,7 +1,7 @@
 -- How long what is written is.
 use Rattle.std.proofs.Common.{◌≡◌, ℕ, length, length-append, arith}
 use Rattle.std.proofs.lemmas.List.{length-replicate}
-use Rattle.image_tests.specs.Written.{zeros}
+use Rattle.image_builder.specs.Written.{zeros}
 use Rattle.image_tests.specs.Images.{sample}
 
 pub length_zeros : (n : ℕ) → length (zeros n) ≡ n

@@ -1,10 +1,18 @@
 -- The images that the tests start from, byte by byte. Assumes nothing: these are definitions.
-use Rattle.std.specs.Prelude.{ℕ, ◌+◌, ◌*◌, List, ◌++◌, fold, min}
+use Rattle.std.specs.Prelude.{ℕ, ◌+◌, ◌*◌, List, [], ◌∷◌, ◌++◌, fold, min}
 use Rattle.std.specs.List.{flat_map, repeat}
 use Rattle.rights.specs.declared.kinds.Kind.{Kind}
 use Rattle.rights.specs.declared.kinds.Kind.TheVariants.{Pool, Table, Port, Page, Thread, Line}
 use Rattle.image_tests.specs.declared.images.Objects.{Objects}
-use Rattle.image_tests.specs.Written.{zeros, start, header, slot, page, thread}
+use Rattle.image_builder.specs.Written.{zeros, start, header, slot, mapping, table, begins}
+
+-- a page, with its first and its last byte
+abbrev pub page : ℕ → ℕ → List ℕ
+page first last = (first ∷ zeros 4094) ++ (last ∷ [])
+
+-- a thread: table + 1, a page at the first and the last place of its space, ready, pc
+abbrev pub thread : ℕ → ℕ → ℕ → List ℕ
+thread number page pc = table number ++ (mapping page 1 ++ (zeros 186 ++ (mapping page 0 ++ begins 1 pc)))
 
 -- the seven headers of the sample, and what follows them
 abbrev pub headers : List ℕ

@@ -2,7 +2,7 @@
 ghost use Rattle.std.specs.Prelude.{◌≡◌, ◌++◌, ◌≤◌, ◌^◌, IfOk, OnOk, vec_len};
 ghost use Rattle.image_tests.specs.Images as images;
 
-use crate::builder::ImageBuilder;
+use image_builder::ImageBuilder;
 use rights::Kind;
 use std::alloc::{AllocError, Global};
 
@@ -24,6 +24,27 @@ fn headers(image: &mut ImageBuilder) -> Result<(), AllocError>
     image.header(Kind::Thread, 0)
 }
 
+// A page with its first and its last byte.
+fn page(image: &mut ImageBuilder, first: u8, last: u8) -> Result<(), AllocError>
+    ensures { OnOk result (image.new ≡ image.old ++ images.page first last) }
+{
+    image.write(&[first])?;
+    image.zeros(4094)?;
+    image.write(&[last])
+}
+
+// A thread that is ready, with a page at the first and the last place of its space; the 62 places
+// between are free.
+fn thread(image: &mut ImageBuilder, table: u16, page: u16, pc: u32) -> Result<(), AllocError>
+    ensures { OnOk result (image.new ≡ image.old ++ images.thread table page pc) }
+{
+    image.table(table)?;
+    image.mapping(page, 1)?;
+    image.zeros(3 * 62)?;
+    image.mapping(page, 0)?;
+    image.begins(1, pc)
+}
+
 // Its contents, from 6 + 3 × 7 = 27 on. Slots are at 27, 34 (empty, with rights and a badge all the
 // same) and 41, pages at 48 and 4,144, threads at 8,240 and 8,439. A thread has its table at 0, its
 // space from 2 to 193, its ready mark at 194 and its pc at 195.
@@ -33,10 +54,10 @@ fn contents(image: &mut ImageBuilder) -> Result<(), AllocError>
     image.slot(7, 7, 0xffff_ffff)?;
     image.slot(0, 7, 0xffff_ffff)?;
     image.slot(1, 0, 0)?;
-    image.page(1, 255)?;
-    image.page(255, 1)?;
-    image.thread(5, 6, 0xffff_ffff)?;
-    image.thread(1, 2, 0)
+    page(image, 1, 255)?;
+    page(image, 255, 1)?;
+    thread(image, 5, 6, 0xffff_ffff)?;
+    thread(image, 1, 2, 0)
 }
 
 // An image of seven objects with all there is in a table, a page and a thread, each twice.

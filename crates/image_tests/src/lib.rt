@@ -2,7 +2,6 @@
 // the format; no test asks the code under test where something lies.
 #![tactic(auto)]
 
-mod builder;
 #[cfg(test)]
 mod cuts;
 #[cfg(test)]

@@ -8,7 +8,7 @@ use native.Mathlib.Omega.{arith}
 use borrow.Author.Tests.{eq-eqb}
 use Rattle.rights.specs.World.{no, Act, Wait, sender, receiver, State, stopped, ready, waits, Object, gone, pool, table, port, page, thread, line}
 use Rattle.rights.specs.World.{World, among, object, with_object, from_of, waits_thread, cleared, set_state, then_of, resumed, handed, went_on, run}
-use Rattle.rights.specs.Promise.{Kinds, Uncut, Note, message, got_by, met_at, row_of, Back, waits_on, was_heard, was_told, was_ended, ComesBack}
+use Rattle.rights.specs.Promise.{Kinds, Uncut, IsIn, is_first, Note, message, got_by, met_at, row_of, Back, waits_on, was_heard, was_told, was_ended, ComesBack}
 use Rattle.laws.proofs.Tests.{yes_no, no_yes, clash, same_or_not}
 use Rattle.laws.proofs.Steps.{is_sender, came, met, told, Sight, seen_as, waiting_at, AllCut, AllGone, one, waits_at, view, waiting_of}
 use Rattle.laws.proofs.Steps.{waiting, goes, sweeps, rests, joins, Outcome, nothing, heard, stops, calls}
@@ -71,12 +71,16 @@ module _ (Cpu : Type 0) (fresh : ℕ → Cpu) (act : Cpu → (ℕ → ℕ) → A
 
   module _ {w : World Cpu} (k : Kinds Cpu fresh act w) (i : Orderly Cpu fresh act w) (un : Uncut Cpu fresh act w) (t f o a : ℕ) (c : Cpu) (ps : List ℕ) (rs : List Bool) (then : List ℕ → Cpu)
       (e : obj w t ≡ thread f (waits o then) c a ps rs) where
+    -- the row that it waits in
+    abbrev R : List Wait
+    R = row_of Cpu fresh act (obj w o)
+
     -- it is seen as it was
-    as_before : {ns : List Note} (v : World Cpu) → look (obj v t) ≡ look (obj w t) → Back Cpu fresh act ns v t f o then
+    as_before : {ns : List Note} (v : World Cpu) → look (obj v t) ≡ look (obj w t) → Back Cpu fresh act R ns v t f o then
     unfolding view
     as_before v h = let y = from_look (obj v t) f (waits o then) c (h ∙ ap look e) in waits_on c y.0 y.1 y.2 y.3
 
-    goes_waiting_on : {ns : List Note} (v : World Cpu) → waiting Cpu fresh act (obj v t) ≡ waiting Cpu fresh act (obj w t) → Back Cpu fresh act ns v t f o then
+    goes_waiting_on : {ns : List Note} (v : World Cpu) → waiting Cpu fresh act (obj v t) ≡ waiting Cpu fresh act (obj w t) → Back Cpu fresh act R ns v t f o then
     unfolding view waiting_of
     goes_waiting_on v h = let y = from_waiting (obj v t) f o then (h ∙ ap (waiting Cpu fresh act) e) in waits_on y.0 y.1 y.2 y.3 y.4
 
@@ -92,18 +96,18 @@ module _ (Cpu : Type 0) (fresh : ℕ → Cpu) (act : Cpu → (ℕ → ℕ) → A
     it_waits = ap (waits_at Cpu fresh act) e
 
     -- what is noted of its meeting
-    noted_heard : (x y : Wait) → is_sender x ≡ not (is_sender y) → (a' : ℕ) (ps' : List ℕ) (rs' : List Bool) (v : World Cpu) → waits_thread Cpu fresh act y ≡ t → obj v t ≡ thread f ready (then (told y x)) a' ps' rs' →
-        Back Cpu fresh act (came o x ∷ met o x y) v t f o then
+    noted_heard : (x y : Wait) → IsIn y R → is_sender x ≡ not (is_sender y) → (a' : ℕ) (ps' : List ℕ) (rs' : List Bool) (v : World Cpu) → waits_thread Cpu fresh act y ≡ t → obj v t ≡ thread f ready (then (told y x)) a' ps' rs' →
+        Back Cpu fresh act R (came o x ∷ met o x y) v t f o then
     unfolding told came met met_at is_sender waits_thread
-    noted_heard (sender p b ws h g s) (sender u d vs j l r) n a' ps' rs' v m q = yes_no n
-    noted_heard (receiver p d) (sender u b ws h g s) n a' ps' rs' v m q =
-        was_heard p b a' ws ps' rs' (rw (eq-eqb o o refl) (ap {B = List _} (λ (j : ℕ). got_by (message j b ws) p ∷ []) m)) q
-    noted_heard (sender p b ws h g s) (receiver u d) n a' ps' rs' v m q =
-        was_told p b a' ws ps' rs' (rw (eq-eqb o o refl) (ap {B = List _} (λ (j : ℕ). got_by (message p b ws) j ∷ []) m)) q
-    noted_heard (receiver p d) (receiver u l) n a' ps' rs' v m q = no_yes n
+    noted_heard (sender p b ws h g s) (sender u d vs j l r) i n a' ps' rs' v m q = yes_no n
+    noted_heard (receiver p d) (sender u b ws h g s) i n a' ps' rs' v m q =
+        was_heard p b a' s h g ws ps' rs' (subst (λ (j : ℕ). IsIn (sender j b ws h g s) R) m i) (rw (eq-eqb o o refl) (ap {B = List _} (λ (j : ℕ). got_by (message j b ws) p ∷ []) m)) q
+    noted_heard (sender p b ws h g s) (receiver u d) i n a' ps' rs' v m q =
+        was_told p b a' d ws ps' rs' (subst (λ (j : ℕ). IsIn (receiver j d) R) m i) (rw (eq-eqb o o refl) (ap {B = List _} (λ (j : ℕ). got_by (message p b ws) j ∷ []) m)) q
+    noted_heard (receiver p d) (receiver u l) i n a' ps' rs' v m q = no_yes n
 
     -- every event
-    back : {v : World Cpu} {ns : List Note} → Outcome Cpu fresh act w ns v → Back Cpu fresh act ns v t f o then
+    pub back : {v : World Cpu} {ns : List Note} → Outcome Cpu fresh act w ns v → Back Cpu fresh act R ns v t f o then
     unfolding went_on resumed row_of waits_at view waiting_of AllCut AllGone Uncut from_of
     back nothing = waits_on c a ps rs e
     back (heard u {xs} {ys} zs r) = goes_waiting_on _ (alike_set Cpu fresh act w u (line xs ys) (line xs zs) r (record { rows = refl; ports = refl; goes_on = refl }) t).goes_on
@@ -119,7 +123,7 @@ module _ (Cpu : Type 0) (fresh : ℕ → Cpu) (act : Cpu → (ℕ → ℕ) → A
         seen_now = ap look (put_else Cpu fresh act v p t _ (not_it p g b d ns ms r)) ∙ se t
 
         go : (among t os ≡ true) ⊎ ((look (obj (cleared Cpu fresh act w ids os) t) ≡ seen_as f (waits o then) c) ⊎ ((look (obj (cleared Cpu fresh act w ids os) t) ≡ seen_as f ready (then (no ∷ []))) × (among o os ≡ true))) →
-            Back Cpu fresh act [] V t f o then
+            Back Cpu fresh act R [] V t f o then
         go (inl h) = absurd (ac t h (ap (from_of Cpu fresh act) e ∙ un t f a (waits o then) c ps rs e))
         go (inr (inl h)) = as_before V (seen_now ∙ h ∙ sym (ap look e))
         go (inr (inr (h, m))) = let y = from_look (obj V t) f ready (then (no ∷ [])) (seen_now ∙ h) in was_ended y.0 y.1 y.2 (gone_state Cpu fresh act v p o ready (next ws) (ag o m)) y.3
@@ -144,13 +148,16 @@ module _ (Cpu : Type 0) (fresh : ℕ → Cpu) (act : Cpu → (ℕ → ℕ) → A
         same_b : look (obj B t) ≡ look (obj w t)
         same_b = (hands_over Cpu fresh act A h b1 b2 b3 b4).2 t ∙ ap look (put_else Cpu fresh act w u t _ (not_port u l (y ∷ q) at))
 
-        met_it : waits_thread Cpu fresh act y ≡ t → Back Cpu fresh act (came u x ∷ met u x y) V t f o then
+        met_it : waits_thread Cpu fresh act y ≡ t → Back Cpu fresh act R (came u x ∷ met u x y) V t f o then
         met_it j =
-            subst (λ (i : ℕ). Back Cpu fresh act (came i x ∷ met i x y) V t f o then) (sym here) (noted_heard x y n z.0 z.1 z.2 V j
+            subst (λ (i : ℕ). Back Cpu fresh act R (came i x ∷ met i x y) V t f o then) (sym here) (noted_heard x y in_row n z.0 z.1 z.2 V j
             (put_else Cpu fresh act C p t _ (not_it p g b d ns ms r) ∙ at_c))
           where
             here : u ≡ o
             here = let a1 = first_waits Cpu fresh act i u l y q at in let a2 : where_at Cpu fresh act w t ≡ suc u = ap (where_at Cpu fresh act w) (sym j) ∙ a1 in let a3 = it_waits in omega arith
+
+            in_row : IsIn y R
+            in_row = subst (λ (vs : List Wait). IsIn y vs) (sym (ap (row_of Cpu fresh act) (ap (obj w) (sym here) ∙ at))) is_first
 
             z : (a : ℕ) × (ps : List ℕ) × (rs : List Bool) × (obj B t ≡ thread f (waits o then) c a ps rs)
             z = from_look (obj B t) f (waits o then) c (same_b ∙ ap look e)

@@ -75,22 +75,22 @@ module _ (Cpu : Type 0) (fresh : ℕ → Cpu) (act : Cpu → (ℕ → ℕ) → A
 
   -- an event of a ready thread whose instruction is a call
   pub is_call : (z : Sizes) (w : World Cpu) (p f a : ℕ) (c : Cpu) (ps : List ℕ) (rs : List Bool) (d : Call) (then : List ℕ → Cpu) → obj w p ≡ thread f ready c a ps rs → act c (seen Cpu fresh act z w ps) ≡ call d then →
-      (event Cpu fresh act z w (tick p) ≡ went_on Cpu fresh act w p then (does Cpu fresh act z w p d)) × (event_noted Cpu fresh act z w (tick p) ≡ call_noted Cpu fresh act z w p d)
+      (event Cpu fresh act z w (tick p) ≡ went_on Cpu fresh act w p then (does Cpu fresh act z w p d)) × (event_noted Cpu fresh act (does Cpu fresh act) z w (tick p) ≡ call_noted Cpu fresh act (does Cpu fresh act) z w p d)
   unfolding event event_noted ticked tick_noted acts act_noted
   is_call z w p f a c ps rs d then e g =
-      (ap (ticked Cpu fresh act z w p) e ∙ ap (acts Cpu fresh act z w p ps rs) g, ap (tick_noted Cpu fresh act z w p) e ∙ ap (act_noted Cpu fresh act z w p) g)
+      (ap (ticked Cpu fresh act z w p) e ∙ ap (acts Cpu fresh act z w p ps rs) g, ap (tick_noted Cpu fresh act (does Cpu fresh act) z w p) e ∙ ap (act_noted Cpu fresh act (does Cpu fresh act) z w p) g)
 
   pub at_once : AtOnce Cpu fresh act
   unfolding AtOnce
   at_once = (
     (λ z w p f a s h g c ws ps rs then e i.
         let j = is_call z w p f a c ps rs (send s ws g h) then e i in
-        subst (λ (v : World Cpu). SendBack Cpu fresh act (event_noted Cpu fresh act z w (tick p)) v p f (port_at Cpu fresh act w p s) (slot_badge (slot Cpu fresh act w p s)) (take 4 ws) then) (sym j.0)
+        subst (λ (v : World Cpu). SendBack Cpu fresh act (event_noted Cpu fresh act (does Cpu fresh act) z w (tick p)) v p f (port_at Cpu fresh act w p s) (slot_badge (slot Cpu fresh act w p s)) (take 4 ws) then) (sym j.0)
         (subst (λ (ns : List Note). SendBack Cpu fresh act ns (went_on Cpu fresh act w p then (does Cpu fresh act z w p (send s ws g h))) p f (port_at Cpu fresh act w p s) (slot_badge (slot Cpu fresh act w p s)) (take 4 ws) then) (sym j.1)
         (sent w p f a c ps rs then e _ _ _ _ g h _ _ (c_send Cpu fresh act p z w s ws g h)))),
     λ z w p f a s d c ps rs then e i.
         let j = is_call z w p f a c ps rs (receive s d) then e i in
-        subst (λ (v : World Cpu). ReceiveBack Cpu fresh act (event_noted Cpu fresh act z w (tick p)) v p f (port_at Cpu fresh act w p s) then) (sym j.0)
+        subst (λ (v : World Cpu). ReceiveBack Cpu fresh act (event_noted Cpu fresh act (does Cpu fresh act) z w (tick p)) v p f (port_at Cpu fresh act w p s) then) (sym j.0)
         (subst (λ (ns : List Note). ReceiveBack Cpu fresh act ns (went_on Cpu fresh act w p then (does Cpu fresh act z w p (receive s d))) p f (port_at Cpu fresh act w p s) then) (sym j.1)
         (received w p f a c ps rs then e _ d _ _ (c_receive Cpu fresh act p z w s d))),
   )

@@ -12,7 +12,7 @@ use Rattle.rights.specs.World.{pick, Rights, Slot, empty, cap, Kind, a_pool, a_t
 use Rattle.rights.specs.World.{page, thread, line, Sizes, World, Event, slot_object, slot_rights, slot_birth, slot_mother, is_empty, among, object}
 use Rattle.rights.specs.World.{with_object, slots_of, slot, made_from, offspring, cuttings, cleared, refilled, Went, on, refuse, made, is_pool}
 use Rattle.rights.specs.World.{revoking, set_state, State, does, event, run}
-use Rattle.rights.specs.Promise.{Parted, Comes, Revoked, HeldIsThere, NoMore}
+use Rattle.rights.specs.Promise.{ComesBy, HeldIsThereIn, NoMoreIn, Parted, Comes, Revoked, HeldIsThere, NoMore}
 use Rattle.laws.proofs.Tests.{yes_no, no_yes, both_ways, clash, or_cases, less_one, among-++}
 use Rattle.laws.proofs.Steps.{NoWider, to, In, Turn, kept, spoken, stored, mapped, bound, ran, rowed, drawn, slotted, cut_new, Born, Change, one}
 use Rattle.laws.proofs.Sweeping.{AfterSweep, lost, untouched, slots_go, waits_go, goes_calm, goes_waiting, goes_woken, swept_at, emptied_at}
@@ -30,7 +30,7 @@ under_more h (under_cons k r) = under_cons (omega arith) (under_more h r)
 
 module _ (Cpu : Type 0) (fresh : ℕ → Cpu) (act : Cpu → (ℕ → ℕ) → Act Cpu) where
   -- what each step leaves in slots, and what it leaves at all
-  made_empty : (z : Sizes) (f : ℕ) (k : Kind) (i : ℕ) → get_or (slots_of Cpu fresh act (made Cpu fresh act z f k)) i empty ≡ empty
+  pub made_empty : (z : Sizes) (f : ℕ) (k : Kind) (i : ℕ) → get_or (slots_of Cpu fresh act (made Cpu fresh act z f k)) i empty ≡ empty
   unfolding made slots_of
   made_empty z f (a_pool n) i = refl
   made_empty z f (a_table n) i = fill n i
@@ -53,7 +53,7 @@ module _ (Cpu : Type 0) (fresh : ℕ → Cpu) (act : Cpu → (ℕ → ℕ) → A
   turn_in ran q i y e n = yes_no (ap is_empty e ∙ n)
   turn_in rowed q i y e n = yes_no (ap is_empty e ∙ n)
   turn_in (drawn g) q i y e n = yes_no (ap is_empty e ∙ n)
-  turn_in (slotted g) q i y e n = g i y e n
+  turn_in (slotted l g) q i y e n = g i y e n
   turn_in (cut_new o z k l g) q i y e n = yes_no (ap is_empty (sym (made_empty z (suc o) k i) ∙ e) ∙ n)
 
   turn_lives : {w : World Cpu} {new : Slot} {u : ℕ} {x z : Object Cpu} → Turn Cpu fresh act w new u x z → z ≡ gone → x ≡ gone
@@ -65,7 +65,7 @@ module _ (Cpu : Type 0) (fresh : ℕ → Cpu) (act : Cpu → (ℕ → ℕ) → A
   turn_lives ran e = clash (cc)
   turn_lives rowed e = clash (cc)
   turn_lives (drawn g) e = clash (cc)
-  turn_lives (slotted g) e = clash (cc)
+  turn_lives (slotted l g) e = clash (cc)
   turn_lives (cut_new o z k l g) e = refl
 
   pub swept_in : {ids os : List ℕ} {u : ℕ} {x z : Object Cpu} → AfterSweep Cpu fresh act ids os u x z → (i : ℕ) (y : Slot) → get_or (slots_of Cpu fresh act z) i empty ≡ y → is_empty y ≡ false →
@@ -97,14 +97,14 @@ module _ (Cpu : Type 0) (fresh : ℕ → Cpu) (act : Cpu → (ℕ → ℕ) → A
   swept_lives (goes_waiting t ps h g) l e = clash (cc)
   swept_lives (goes_woken o then t ps h g) l e = clash (cc)
 
-  in_small : {w v : World Cpu} (c : Change Cpu fresh act w v) (y : Slot) → In Cpu fresh act v y → In Cpu fresh act w y ⊎ (y ≡ c.new)
+  pub in_small : {w v : World Cpu} (c : Change Cpu fresh act w v) (y : Slot) → In Cpu fresh act v y → In Cpu fresh act w y ⊎ (y ≡ c.new)
   unfolding In
   in_small c y (o, i, e, n) = turn_in (c.turns o) refl i y e n
 
   lives_small : {w v : World Cpu} (c : Change Cpu fresh act w v) (u : ℕ) → object Cpu fresh act v u ≡ gone → object Cpu fresh act w u ≡ gone
   lives_small c u e = turn_lives (c.turns u) e
 
-  in_swept : (w : World Cpu) (ids os : List ℕ) (y : Slot) → In Cpu fresh act (cleared Cpu fresh act w ids os) y → In Cpu fresh act w y × (among (slot_birth y) ids ≡ false) × (among (to y) os ≡ false)
+  pub in_swept : (w : World Cpu) (ids os : List ℕ) (y : Slot) → In Cpu fresh act (cleared Cpu fresh act w ids os) y → In Cpu fresh act w y × (among (slot_birth y) ids ≡ false) × (among (to y) os ≡ false)
   unfolding In
   in_swept w ids os y (o, i, e, n) = let h = swept_in (swept_at Cpu fresh act w ids os o) i y e n in ((o, i, h.0, n), h.1, h.2)
 
@@ -118,12 +118,12 @@ module _ (Cpu : Type 0) (fresh : ℕ → Cpu) (act : Cpu → (ℕ → ℕ) → A
     pub less : (x y : Slot) → In Cpu fresh act w x → In Cpu fresh act w y → slot_mother x ≡ slot_birth y → slot_object x ≡ slot_object y → NoWider (slot_rights x) (slot_rights y)
     pub under : Under w.births w.lineage
 
-  full_in : (w : World Cpu) (y : Slot) → In Cpu fresh act w y → is_empty y ≡ false
+  pub full_in : (w : World Cpu) (y : Slot) → In Cpu fresh act w y → is_empty y ≡ false
   unfolding In
   full_in w y h = h.3
 
   -- a step keeps it
-  good_small : {b w : World Cpu} → Change Cpu fresh act b w → Good b → Good w
+  pub good_small : {b w : World Cpu} → Change Cpu fresh act b w → Good b → Good w
   good_small {b} {w} c g =
       record {
         alive = λ y h e. alive' y h e (in_small c y h);
@@ -143,7 +143,7 @@ module _ (Cpu : Type 0) (fresh : ℕ → Cpu) (act : Cpu → (ℕ → ℕ) → A
           n : Born Cpu fresh act b w c.new
           n = at_new y h k
 
-          go : ((slot_object c.new ≡ slot_object n.mother) × NoWider (slot_rights c.new) (slot_rights n.mother)) ⊎ ((object Cpu fresh act w (to c.new) ≡ gone → ⊥) × (slot_object c.new ≡ slot_object n.mother → ⊥)) → ⊥
+          go : ((slot_object c.new ≡ slot_object n.mother) × NoWider (slot_rights c.new) (slot_rights n.mother)) ⊎ ((object Cpu fresh act w (to c.new) ≡ gone → ⊥) × (slot_object n.mother < slot_object c.new)) → ⊥
           go (inl q) = g.alive n.mother n.here (subst (λ (i : ℕ). object Cpu fresh act b (i - 1) ≡ gone) (ap slot_object k ∙ q.0) (lives_small c (to y) e))
           go (inr q) = q.0 (subst (λ (s : Slot). object Cpu fresh act w (to s) ≡ gone) k e)
 
@@ -173,21 +173,21 @@ module _ (Cpu : Type 0) (fresh : ℕ → Cpu) (act : Cpu → (ℕ → ℕ) → A
           same : n.mother ≡ y
           same = g.uniq n.mother y n.here q (sym n.from_it ∙ sym (ap slot_mother p) ∙ e)
 
-          go : ((slot_object c.new ≡ slot_object n.mother) × NoWider (slot_rights c.new) (slot_rights n.mother)) ⊎ ((object Cpu fresh act w (to c.new) ≡ gone → ⊥) × (slot_object c.new ≡ slot_object n.mother → ⊥)) →
+          go : ((slot_object c.new ≡ slot_object n.mother) × NoWider (slot_rights c.new) (slot_rights n.mother)) ⊎ ((object Cpu fresh act w (to c.new) ≡ gone → ⊥) × (slot_object n.mother < slot_object c.new)) →
               NoWider (slot_rights x) (slot_rights y)
           go (inl r) = subst (λ (s : Slot). NoWider (slot_rights s) (slot_rights y)) (sym p) (subst (λ (s : Slot). NoWider (slot_rights c.new) (slot_rights s)) same r.1)
-          go (inr r) = absurd (r.1 (sym (ap slot_object p) ∙ f ∙ ap slot_object (sym same)))
+          go (inr r) = let e : slot_object c.new ≡ slot_object n.mother = sym (ap slot_object p) ∙ f ∙ ap slot_object (sym same) in let l = r.1 in absurd (omega arith)
       less' x y h k e f (inr p) (inr q) =
           let n = at_new x h p in
           let a = g.low n.mother n.here in
           let d : slot_mother x ≡ slot_birth n.mother = ap slot_mother p ∙ n.from_it in
           let i : slot_birth y ≡ suc b.births = ap slot_birth q ∙ n.now in absurd (omega arith)
 
-      under' : (w.lineage ≡ b.lineage) ⊎ ((e : Slot) × (w.lineage ≡ e ∷ b.lineage) × (slot_birth e ≤ w.births)) → Under w.births w.lineage
+      under' : (w.lineage ≡ b.lineage) ⊎ ((w.lineage ≡ c.new ∷ b.lineage) × (is_empty c.new ≡ false)) → Under w.births w.lineage
       under' (inl e) = subst (Under w.births) (sym e) (under_more c.more g.under)
-      under' (inr h) = subst (Under w.births) (sym h.1) (under_cons h.2 (under_more c.more g.under))
+      under' (inr h) = let n = c.birth h.1 in let a = n.now in let d = n.counted in subst (Under w.births) (sym h.0) (under_cons (omega arith) (under_more c.more g.under))
 
-  good_sweep : (w : World Cpu) (ids os : List ℕ) → Good w → Good (cleared Cpu fresh act w ids os)
+  pub good_sweep : (w : World Cpu) (ids os : List ℕ) → Good w → Good (cleared Cpu fresh act w ids os)
   unfolding cleared
   good_sweep w ids os g =
       record {
@@ -233,7 +233,7 @@ module _ (Cpu : Type 0) (fresh : ℕ → Cpu) (act : Cpu → (ℕ → ℕ) → A
       }
 
   good_comes : (z : Sizes) (w : World Cpu) → Comes Cpu fresh act z w → Good w
-  unfolding Comes
+  unfolding ComesBy
   good_comes z w (v, es, one, p, e) = subst Good e (good_run z v es (good_first v p))
 
   in_at : (w : World Cpu) (o i u b j m : ℕ) (r : Rights) → get_or (slots_of Cpu fresh act (object Cpu fresh act w o)) i empty ≡ cap u r b j m → In Cpu fresh act w (cap u r b j m)
@@ -241,15 +241,15 @@ module _ (Cpu : Type 0) (fresh : ℕ → Cpu) (act : Cpu → (ℕ → ℕ) → A
   in_at w o i u b j m r e = (o, i, e, refl)
 
   pub held_is_there : HeldIsThere Cpu fresh act
-  unfolding HeldIsThere slot_object
+  unfolding HeldIsThere HeldIsThereIn slot_object
   held_is_there z w o i u b j m r c e g = (good_comes z w c).alive (cap u r b j m) (in_at w o i u b j m r e) (subst (λ (x : ℕ). object Cpu fresh act w x ≡ gone) (sym (less_one u)) g)
 
   pub no_more : NoMore Cpu fresh act
-  unfolding NoMore slot_object slot_mother slot_birth slot_rights NoWider
+  unfolding NoMore NoMoreIn slot_object slot_mother slot_birth slot_rights NoWider
   no_more z w o i u b j m p k v c n r q co e f = (good_comes z w co).less (cap u r b j m) (cap u q c m n) (in_at w o i u b j m r e) (in_at w p k u c m n q f) refl refl
 
   -- revoked
-  Without : ℕ → World Cpu → Type 0
+  unfoldable pub Without : ℕ → World Cpu → Type 0
   Without k w = (k ≤ w.births) × ((y : Slot) → In Cpu fresh act w y → slot_birth y ≡ k → ⊥)
 
   without_small : (k : ℕ) {b w : World Cpu} → Change Cpu fresh act b w → Without k b → Without k w
@@ -297,7 +297,7 @@ module _ (Cpu : Type 0) (fresh : ℕ → Cpu) (act : Cpu → (ℕ → ℕ) → A
   pub on_same : (v w : World Cpu) (ws vs : List ℕ) → ◌≡◌ {A = Went Cpu fresh act} (on v ws) (on w vs) → v ≡ w
   on_same v w ws vs e = cc
 
-  after_revoke : (z : Sizes) (w v : World Cpu) (p s k : ℕ) → Good w → among k (offspring Cpu fresh act w w.births (slot_birth (slot Cpu fresh act w p s) ∷ [])) ≡ true → does Cpu fresh act z w p (revoke s) ≡ on v (0 ∷ []) → Without k v
+  pub after_revoke : (z : Sizes) (w v : World Cpu) (p s k : ℕ) → Good w → among k (offspring Cpu fresh act w w.births (slot_birth (slot Cpu fresh act w p s) ∷ [])) ≡ true → does Cpu fresh act z w p (revoke s) ≡ on v (0 ∷ []) → Without k v
   unfolding does revoking refuse
   after_revoke z w v p s k g a e = go (is_empty (slot Cpu fresh act w p s) || (is_pool Cpu fresh act (object Cpu fresh act w (to (slot Cpu fresh act w p s))) && not (slot_rights (slot Cpu fresh act w p s)).writes)) (is_pool Cpu fresh act (object Cpu fresh act w (to (slot Cpu fresh act w p s)))) e
     where

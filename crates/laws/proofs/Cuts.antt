@@ -3,7 +3,7 @@ use mathlib.Core.Path.{◌≡◌, refl, sym, ap, subst, ◌∙◌}
 use mathlib.Core.Bool.{Bool, true, false, ◌||◌, not}
 use mathlib.Core.List.{List, [], ◌∷◌, ◌++◌}
 use mathlib.Core.Logic.{inr}
-use Prim.Native.Nat.{ℕ, suc, ◌+◌, ◌*◌, ◌-◌, ◌≤◌, ◌<◌}
+use Prim.Native.Nat.{ℕ, zero, suc, ◌+◌, ◌*◌, ◌-◌, ◌≤◌, ◌<◌}
 use native.Mathlib.Omega.{arith}
 use native.Mathlib.Nat.{not-suc-le-zero, mul-le-mul}
 use lib.Dec.{ltb, eqb}
@@ -13,7 +13,7 @@ use Rattle.rights.specs.World.{pick, no, Rights, Slot, empty, cap, Kind, a_pool,
 use Rattle.rights.specs.World.{page, thread, line, Sizes, World, cost, step_of, up_to, slot_object, slot_rights, slot_birth, slot_mother, is_empty}
 use Rattle.rights.specs.World.{too_many, object, with_object, slots_of, table_of, slot, has_slot, with_slots, with_slot, Went, on, refuse, made}
 use Rattle.rights.specs.World.{all_rights, cutting, is_pool, does}
-use Rattle.rights.specs.Promise.{Sized, filled, CutExactly, row_of}
+use Rattle.rights.specs.Promise.{Sized, filled, CutExactlyIn, CutExactly, row_of}
 use Rattle.laws.proofs.Tests.{yes_no, below_or_not, and_left, and_right, less_one, set_here, set_apart, set_by, at_end, longer, push_by}
 use Rattle.laws.proofs.Steps.{In, Turn, kept, drawn, cut_new, Change, one, waits_at, view, waiting_of, SameFace, SameFaces}
 use Rattle.laws.proofs.Moves.{alike, turn_slots, alike_slots}
@@ -178,17 +178,44 @@ module _ (Cpu : Type 0) (fresh : ℕ → Cpu) (act : Cpu → (ℕ → ℕ) → A
 
       -- what is in each place after the cut: what was there, the pool with more used, the new object, or a table with another slot
       pub cut_places {ℓ} : (P : ℕ → Object Cpu → Type ℓ) (t : ℕ) → P t (obj w t) → (t ≡ o → P t (pool f n c)) → (t ≡ length w.objects → P t (made Cpu fresh act z (suc o) k)) →
-          ((y : Slot) → P t (with_slots Cpu fresh act (obj w t) (set (slots_of Cpu fresh act (obj w t)) d y))) → P t (obj after_cut t)
-      unfolding object xs m
-      cut_places P t h q g r = put_place P t h q g (λ l. subst (λ (i : ℕ). P t (with_slots Cpu fresh act (get_or w.objects i gone) (set (slots_of Cpu fresh act (get_or w.objects i gone)) d e))) l (r e))
+          ((y : Slot) → table_of Cpu fresh act (obj w p) ≡ suc t → P t (with_slots Cpu fresh act (obj w t) (set (slots_of Cpu fresh act (obj w t)) d y))) → P t (obj after_cut t)
+      unfolding object xs m T
+      cut_places P t h q g r =
+          put_place P t h q g (λ l. subst (λ (i : ℕ). P t (with_slots Cpu fresh act (get_or w.objects i gone) (set (slots_of Cpu fresh act (get_or w.objects i gone)) d e))) l
+          (r e (its_table l)))
+        where
+          its_table : t ≡ table_of Cpu fresh act (get_or w.objects p gone) - 1 → table_of Cpu fresh act (get_or w.objects p gone) ≡ suc t
+          its_table l = go (table_of Cpu fresh act (get_or w.objects p gone)) refl l
+            where
+              go : (a : ℕ) → table_of Cpu fresh act (get_or w.objects p gone) ≡ a → t ≡ a - 1 → a ≡ suc t
+              go zero k m = absurd (has_table k)
+              go (suc a) k m = omega arith
 
       -- the new capability is in its slot
       pub slot_after : slot Cpu fresh act after_cut p d ≡ cap (length w.objects) (all_rights Cpu fresh act) 0 (suc w.births) (slot_birth x)
       unfolding e xs
       slot_after = at_slot_d
 
+      -- the new object is there
+      pub new_after : obj after_cut (length w.objects) ≡ made Cpu fresh act z (suc o) k
+      unfolding m xs
+      new_after = at_new
+
+      -- the table has the new capability
+      pub table_after : (t : ℕ) → table_of Cpu fresh act (obj w p) ≡ suc t →
+          obj after_cut t ≡ with_slots Cpu fresh act (obj w t) (set (slots_of Cpu fresh act (obj w t)) d (cap (length w.objects) (all_rights Cpu fresh act) 0 (suc w.births) (slot_birth x)))
+      unfolding object zs xs T e
+      table_after t q = subst (λ (i : ℕ). get_or after_cut.objects i gone ≡ X i) at_t (subst (λ (ys : List (Object Cpu)). get_or ys T gone ≡ X T) (sym objects_are)
+          (set_here (zs ++ m ∷ []) T (X T) gone (subst (λ (i : ℕ). T < i) (sym (longer zs m ∙ ap suc len)) (let l = T-in in omega arith))))
+        where
+          at_t : T ≡ t
+          at_t = ap (λ (i : ℕ). i - 1) q ∙ less_one t
+
+          X : ℕ → Object Cpu
+          X i = with_slots Cpu fresh act (get_or xs i gone) (set (slots_of Cpu fresh act (get_or xs i gone)) d e)
+
       pub small_cut : (c ≤ n) → In Cpu fresh act w x → slot_object x ≡ suc o → Change Cpu fresh act w after_cut
-      unfolding object xs zs e m after_cut with_slot with_object slot_mother slot_birth slot_object is_pool
+      unfolding object xs zs e m after_cut with_slot with_object slot_mother slot_birth slot_object is_pool is_empty
       small_cut le hx ox =
           record {
             new = e;
@@ -203,15 +230,15 @@ module _ (Cpu : Type 0) (fresh : ℕ → Cpu) (act : Cpu → (ℕ → ℕ) → A
               from_it = refl;
               now = refl;
               counted = omega arith;
-              leads = inr ((λ g. made_there z (suc o) k (sym at_new ∙ subst (λ (i : ℕ). obj after_cut i ≡ gone) (less_one (length xs)) g)), λ g. other (g ∙ ox));
+              leads = inr ((λ g. made_there z (suc o) k (sym at_new ∙ subst (λ (i : ℕ). obj after_cut i ≡ gone) (less_one (length xs)) g)), let l = o_in in omega arith);
             };
             more = omega arith;
             grows = subst (λ (ys : List (Object Cpu)). length xs ≤ length ys) (sym objects_are) (simp (length-set, longer) (omega arith));
-            lines = inr (e, refl, omega arith);
+            lines = inr (refl, refl);
           }
         where
-          other : suc (length w.objects) ≡ suc o → ⊥
-          other g = let q : length w.objects ≤ o = omega arith in let h = get_or-eq_default w.objects gone q in let r : ◌≡◌ {A = ℕ} 0 1 = cc in omega arith
+          o_in : o < length w.objects
+          o_in = there o (λ g. let q : ◌≡◌ {A = ℕ} 0 1 = cc in omega arith)
 
       pub all_cut : SameFaces Cpu fresh act w after_cut
       unfolding object row_of waits_at view waiting_of xs m
@@ -222,7 +249,7 @@ module _ (Cpu : Type 0) (fresh : ℕ → Cpu) (act : Cpu → (ℕ → ℕ) → A
           (λ q. subst (λ (i : ℕ). SameFace Cpu fresh act (with_slots Cpu fresh act (get_or xs T gone) (set (slots_of Cpu fresh act (get_or xs T gone)) d e)) (get_or xs i gone)) (sym q) (alike_slots Cpu fresh act _ _))
 
   -- a kind of a right size costs something, and is not too many
-  costs : (z : Sizes) (k : Kind) → 1 ≤ z.bytes → Sized Cpu fresh act k → (eqb (cost z k) 0 || too_many k) ≡ false
+  pub costs : (z : Sizes) (k : Kind) → 1 ≤ z.bytes → Sized Cpu fresh act k → (eqb (cost z k) 0 || too_many k) ≡ false
   unfolding Sized cost too_many
   costs z (a_pool n) one h = rw (ne_eqb (n * z.bytes) 0 (positive n z.bytes h.0 one), le-ltb 4096 n h.1)
     where
@@ -245,7 +272,7 @@ module _ (Cpu : Type 0) (fresh : ℕ → Cpu) (act : Cpu → (ℕ → ℕ) → A
       or_no false = refl
 
   pub cut_exactly : CutExactly Cpu fresh act
-  unfolding CutExactly slot_birth xs m e
+  unfolding CutExactly CutExactlyIn slot_birth xs m e
   cut_exactly z w p s d o f n u b j m r k one es er eo hd ed sk =
       record {
         refused = λ q. below_or_not n F (λ l. l) (λ l. absurd (clash (sym (rest l) ∙ q)));

@@ -8,7 +8,7 @@ use lib.Dec.{eqb, eqb-zero-suc}
 use borrow.Author.Tests.{eqb-true, eq-eqb}
 use Rattle.rights.specs.World.{Act, Wait, stopped, ready, waits, Object, gone, pool, table, port, page, thread, line, Sizes, World, Event, among}
 use Rattle.rights.specs.World.{object, event, run}
-use Rattle.rights.specs.Promise.{Parted, Comes, HeldIsThere, waiters, NoTwice, Kinds, Rows, NothingDangles, row_of}
+use Rattle.rights.specs.Promise.{ComesBy, HeldIsThereIn, Parted, HeldIsThere, waiters, NoTwice, Kinds, Rows, NothingDangles, row_of}
 use Rattle.laws.proofs.Tests.{no_yes}
 use Rattle.laws.proofs.Steps.{one, waits_at}
 use Rattle.laws.proofs.Pass.{happens}
@@ -90,7 +90,7 @@ module _ (Cpu : Type 0) (fresh : ℕ → Cpu) (act : Cpu → (ℕ → ℕ) → A
       }
 
   pub nothing_dangles : NothingDangles Cpu fresh act
-  unfolding NothingDangles Comes HeldIsThere
+  unfolding NothingDangles ComesBy HeldIsThere HeldIsThereIn
   nothing_dangles z v es one p k = (
     (λ o i u b j m r e. held_is_there Cpu fresh act z (run Cpu fresh act z v es) o i u b j m r (v, es, one, p, refl) e),
     kinds_run Cpu fresh act z v es k,

@@ -1,26 +1,27 @@
 -- Two sets that hold nothing of each other are parted.
 use mathlib.Core.Path.{◌≡◌, refl, sym, ap, subst, ◌∙◌}
 use mathlib.Core.Bool.{Bool, true}
-use mathlib.Core.List.{List, []}
+use mathlib.Core.List.{List, [], ◌∷◌}
+use lib.Dec.{lit≤}
 use mathlib.Core.Logic.{◌≢◌, ◌⊎◌, inl, inr}
 use Prim.Native.Nat.{ℕ, zero, suc, ◌≤◌, ◌<◌}
 use native.Mathlib.Omega.{arith}
 use borrow.Author.Tests.{le-ltb}
 use lib.ListN.{get_or}
 use Rattle.rv32.specs.declared.registers.Cpu.{Cpu}
-use Rattle.rights.specs.World.{Rights, empty, cap, Act, Wait, State, ready, waits, Object, gone, port, thread, World, slot_rights, object, slots_of}
+use Rattle.rights.specs.World.{Rights, empty, cap, Act, Wait, State, ready, waits, Object, gone, port, thread, slot_birth, object, slots_of}
 use Rattle.rights.specs.World.{from_of}
-use Rattle.rights.specs.Promise.{Parted, mine, only}
+use Rattle.rights.specs.Promise.{Parted, SameSlot, both_empty, both_hold, SameButBirths, same_object, same_slots, mine, only}
 use Rattle.laws.specs.Examples.{all, no_write, two, ours, Parts}
-use Rattle.laws.proofs.Tests.{yes_no, both_ways, clash}
+use Rattle.laws.proofs.Tests.{both_ways, clash}
 
-module _ (fresh : ℕ → Cpu) (act : Cpu → (ℕ → ℕ) → Act Cpu) (r : Rights) (n : ℕ) where
+module _ (fresh : ℕ → Cpu) (act : Cpu → (ℕ → ℕ) → Act Cpu) (r : Rights) (n mine theirs : ℕ) where
   abbrev obj : ℕ → Object Cpu
-  obj o = object Cpu fresh act (two r n) o
+  obj o = object Cpu fresh act (two r n mine theirs) o
 
-  -- a table's number and what its only slot holds: birth 1 in object 1, birth 2 in object 4
+  -- a table's number and what its only slot holds, in object 1 and in object 4
   Place : ℕ → ℕ → ℕ → Type 0
-  Place o u j = ((o ≡ 1) × (u ≡ 0) × (j ≡ 1)) ⊎ ((o ≡ 4) × (u ≡ 3) × (j ≡ 2))
+  Place o u j = ((o ≡ 1) × (u ≡ 0) × (j ≡ mine)) ⊎ ((o ≡ 4) × (u ≡ 3) × (j ≡ theirs))
 
   full : (o i u b j m : ℕ) (q : Rights) → get_or (slots_of Cpu fresh act (obj o)) i empty ≡ cap u q b j m → (i ≡ 0) × (m ≡ 0) × Place o u j
   unfolding slots_of object Place
@@ -81,9 +82,9 @@ module _ (fresh : ℕ → Cpu) (act : Cpu → (ℕ → ℕ) → Act Cpu) (r : Ri
   same_side : (a b c d : ℕ) → a ≡ c → b ≡ d → ours c ≡ ours d → ours a ≡ ours b
   same_side a b c d e f h = ap ours e ∙ h ∙ sym (ap ours f)
 
-  two_parted : Parted Cpu fresh act ours (two r n)
+  pub two_parted : (0 < mine) → (mine ≤ 2) → (0 < theirs) → (theirs ≤ 2) → (mine ≡ theirs → ⊥) → Parted Cpu fresh act ours (two r n mine theirs)
   unfolding Place
-  two_parted =
+  two_parted m1 m2 t1 t2 differ =
       record {
         held = λ o i u b j m q e. let f = full o i u b j m q e in (colour o u j f.2, f.1, there u (low o u j f.2));
         tables = λ o f t s c ps rs e. let h = thread_at o f (suc t) s c ps rs e in at_table o t h.2;
@@ -99,22 +100,22 @@ module _ (fresh : ℕ → Cpu) (act : Cpu → (ℕ → ℕ) → Act Cpu) (r : Ri
       asleep : (u : ℕ) (then : List ℕ → Cpu) → ◌≡◌ {A = State Cpu} (waits u then) ready → ⊥
       asleep u then e = clash (cc)
 
-      colour : (o u j : ℕ) → ((o ≡ 1) × (u ≡ 0) × (j ≡ 1)) ⊎ ((o ≡ 4) × (u ≡ 3) × (j ≡ 2)) → ours u ≡ ours o
+      colour : (o u j : ℕ) → ((o ≡ 1) × (u ≡ 0) × (j ≡ mine)) ⊎ ((o ≡ 4) × (u ≡ 3) × (j ≡ theirs)) → ours u ≡ ours o
       colour o u j (inl h) = same_side u o 0 1 h.1 h.0 refl
       colour o u j (inr h) = same_side u o 3 4 h.1 h.0 refl
 
-      low : (o u j : ℕ) → ((o ≡ 1) × (u ≡ 0) × (j ≡ 1)) ⊎ ((o ≡ 4) × (u ≡ 3) × (j ≡ 2)) → u < 6
+      low : (o u j : ℕ) → ((o ≡ 1) × (u ≡ 0) × (j ≡ mine)) ⊎ ((o ≡ 4) × (u ≡ 3) × (j ≡ theirs)) → u < 6
       low o u j (inl h) = let g = h.1 in omega arith
       low o u j (inr h) = let g = h.1 in omega arith
 
-      birth : (o u j : ℕ) → ((o ≡ 1) × (u ≡ 0) × (j ≡ 1)) ⊎ ((o ≡ 4) × (u ≡ 3) × (j ≡ 2)) → (0 < j) × (j ≤ 2)
+      birth : (o u j : ℕ) → ((o ≡ 1) × (u ≡ 0) × (j ≡ mine)) ⊎ ((o ≡ 4) × (u ≡ 3) × (j ≡ theirs)) → (0 < j) × (j ≤ 2)
       birth o u j (inl h) = let g = h.2 in (omega arith, omega arith)
       birth o u j (inr h) = let g = h.2 in (omega arith, omega arith)
 
-      apart : (o u p v j : ℕ) → ((o ≡ 1) × (u ≡ 0) × (j ≡ 1)) ⊎ ((o ≡ 4) × (u ≡ 3) × (j ≡ 2)) → ((p ≡ 1) × (v ≡ 0) × (j ≡ 1)) ⊎ ((p ≡ 4) × (v ≡ 3) × (j ≡ 2)) → o ≡ p
+      apart : (o u p v j : ℕ) → ((o ≡ 1) × (u ≡ 0) × (j ≡ mine)) ⊎ ((o ≡ 4) × (u ≡ 3) × (j ≡ theirs)) → ((p ≡ 1) × (v ≡ 0) × (j ≡ mine)) ⊎ ((p ≡ 4) × (v ≡ 3) × (j ≡ theirs)) → o ≡ p
       apart o u p v j (inl h) (inl g) = h.0 ∙ sym g.0
-      apart o u p v j (inl h) (inr g) = let a = h.2 in let b = g.2 in absurd (omega arith)
-      apart o u p v j (inr h) (inl g) = let a = h.2 in let b = g.2 in absurd (omega arith)
+      apart o u p v j (inl h) (inr g) = absurd (differ (sym h.2 ∙ g.2))
+      apart o u p v j (inr h) (inl g) = absurd (differ (sym g.2 ∙ h.2))
       apart o u p v j (inr h) (inr g) = h.0 ∙ sym g.0
 
       at_table : (o t : ℕ) → ((o ≡ 2) × (suc t ≡ 2)) ⊎ ((o ≡ 5) × (suc t ≡ 5)) → (ours t ≡ ours o) × (obj t ≢ gone)
@@ -122,14 +123,23 @@ module _ (fresh : ℕ → Cpu) (act : Cpu → (ℕ → ℕ) → Act Cpu) (r : Ri
       at_table o t (inr h) = let g = h.1 in (same_side t o 4 5 (omega arith) h.0 refl, there t (omega arith))
 
 pub parts : Parts
-unfolding object only mine slots_of slot_rights
-parts f a = (two_parted f a all 1, two_parted f a no_write 2, differ, same, refl, λ u h. le-ltb u 3 (omega arith))
+unfolding object only mine slots_of slot_birth
+parts f a = (
+  two_parted f a all 1 1 2 (lit≤ tt) (lit≤ tt) (lit≤ tt) (lit≤ tt) (λ e. omega arith),
+  two_parted f a no_write 2 2 1 (lit≤ tt) (lit≤ tt) (lit≤ tt) (lit≤ tt) (λ e. omega arith),
+  (λ e. let h : ◌≡◌ {A = ℕ} 1 2 = ap slot_birth e in omega arith),
+  (λ e. let h : ◌≡◌ {A = ℕ} 2 1 = ap slot_birth e in omega arith),
+  same,
+  refl,
+  λ u h. le-ltb u 3 (omega arith),
+)
   where
-    differ : two all 1 ≢ two no_write 2
-    differ e = yes_no (ap (λ (w : World Cpu). (slot_rights (get_or (slots_of Cpu f a (object Cpu f a w 4)) 0 empty)).writes) e)
+    slots : (i : ℕ) → SameSlot Cpu f a (get_or (cap 0 all 0 1 0 ∷ []) i empty) (get_or (cap 0 all 0 2 0 ∷ []) i empty)
+    slots zero = both_hold
+    slots (suc i) = both_empty
 
-    same : (u : ℕ) → u < 6 → ours u ≡ true → object Cpu f a (two all 1) u ≡ object Cpu f a (two no_write 2) u
-    same zero l h = refl
-    same (suc zero) l h = refl
-    same (suc (suc zero)) l h = refl
+    same : (u : ℕ) → u < 6 → ours u ≡ true → SameButBirths Cpu f a (object Cpu f a (two all 1 1 2) u) (object Cpu f a (two no_write 2 2 1) u)
+    same zero l h = same_object
+    same (suc zero) l h = same_slots refl slots
+    same (suc (suc zero)) l h = same_object
     same (suc (suc (suc u))) l h = both_ways h (le-ltb (suc (suc (suc u))) 3 (omega arith))

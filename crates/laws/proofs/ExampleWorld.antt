@@ -5,12 +5,12 @@ use mathlib.Core.List.{List, []}
 use Prim.Native.Nat.{ℕ, zero, suc, ◌<◌}
 use native.Mathlib.Omega.{arith}
 use lib.Dec.{lit≤}
-use lib.ListN.{get_or, replicate, length-replicate}
+use lib.ListN.{length, get_or, replicate, length-replicate}
 use Rattle.rv32.specs.Registers.{fresh as new_core}
 use Rattle.rv32.specs.declared.registers.Cpu.{Cpu}
 use Rattle.rights.specs.World.{Rights, empty, cap, Act, wrong, Wait, State, ready, waits, Object, gone, pool, port, thread, object, slots_of, from_of}
 use Rattle.rights.specs.Promise.{Parted, New, new_pool, new_table, new_port, new_page, new_thread, new_line, births_in, all_births, up_from, threads}
-use Rattle.rights.specs.Promise.{lines, Kinds, Uncut}
+use Rattle.rights.specs.Promise.{lines, Kinds, Paged, Uncut}
 use Rattle.laws.specs.Examples.{board, all, slots, small, Starts, Carried}
 use Rattle.laws.proofs.Tests.{clash}
 
@@ -134,6 +134,17 @@ module _ (fresh : ℕ → Cpu) (act : Cpu → (ℕ → ℕ) → Act Cpu) (r : Ri
         its_pages = λ o f t k u s c ps rs e g. let h = threads_are o f t s c ps rs e in absurd (nothing_at k u (subst (λ (xs : List ℕ). get_or xs k 0 ≡ suc u) h.3 g));
         its_pool = λ o u e. let h = uncut_all o in absurd (omega arith);
       }
+
+  pub small_paged : Paged Cpu fresh act board (small r)
+  unfolding Paged object
+  small_paged zero f bs e = clash (cc)
+  small_paged (suc zero) f bs e = clash (cc)
+  small_paged (suc (suc zero)) f bs e = clash (cc)
+  small_paged (suc (suc (suc zero))) f bs e = let h : replicate {A = ℕ} 4096 0 ≡ bs = cc in subst (λ (ys : List ℕ). length ys ≡ 4096) h (length-replicate {A = ℕ} 4096 0)
+  small_paged (suc (suc (suc (suc zero)))) f bs e = clash (cc)
+  small_paged (suc (suc (suc (suc (suc zero))))) f bs e = clash (cc)
+  small_paged (suc (suc (suc (suc (suc (suc zero)))))) f bs e = clash (cc)
+  small_paged (suc (suc (suc (suc (suc (suc (suc o))))))) f bs e = clash (cc)
 
 pub starts : Starts
 unfolding Uncut

@@ -8,7 +8,7 @@ use native.Mathlib.Omega.{arith}
 use lib.Dec.{ltb, eqb}
 use borrow.Author.Tests.{eqb-true, eq-eqb, ne_eqb, ltb-true}
 use lib.ListN.{length, get_or, set}
-use Rattle.rights.specs.World.{pick, Rights, Slot, empty, cap, Call, cut, copy, move, drop_it, revoke, send, receive, map, unmap, bind, go, say, hear}
+use Rattle.rights.specs.World.{pick, Slot, empty, cap, Call, cut, copy, move, drop_it, revoke, send, receive, map, unmap, bind, go, say, hear}
 use Rattle.rights.specs.World.{Act, quiet, store, call, wrong, State, stopped, ready, waits, Object, gone, pool, table, port, page, thread, line, Sizes, World, Event, tick, byte}
 use Rattle.rights.specs.World.{cost, step_of, up_to, slot_birth, slot_mother, is_empty, copied, too_many, among, object, with_object, slots_of, table_of, slot, has_slot, with_slots, with_slot}
 use Rattle.rights.specs.World.{made_from, offspring, cleared, Went, on, wait, refuse, cutting, is_pool, revoking, set_state, seen, stores, may_store, does, went_on, acts, ticked, comes_in, event, run}
@@ -16,7 +16,7 @@ use Rattle.rights.specs.Promise.{Parted, Making, by_copy, by_cut, Holds, MadeNow
 use Rattle.laws.proofs.Tests.{yes_no, no_yes, pick_both, pick_know, or_left, or_right, or_cases, or_first, or_second, both_hold, and_left, and_right, set_here, set_by, inside, among-++}
 use Rattle.laws.proofs.Forms.{by_pool, by_line, no_cut, no_copy, no_revoke, cutting_is, comes_in_is}
 use Rattle.laws.proofs.Steps.{to, Change}
-use Rattle.laws.proofs.Moves.{slot_in, copied_is}
+use Rattle.laws.proofs.Moves.{slot_in, copied_is, copied_full}
 use Rattle.laws.proofs.Cuts.{after_cut, table_kept, filled_in, slot_after}
 use Rattle.laws.proofs.Pass.{event_keeps, run_keeps}
 use Rattle.laws.proofs.Caps.{Good, good_first, good_event, good_run, revoked_then}
@@ -28,7 +28,7 @@ module _ (Cpu : Type 0) (fresh : ℕ → Cpu) (act : Cpu → (ℕ → ℕ) → A
   obj = object Cpu fresh act
 
   -- a slot that is put into a place is there
-  slot_put : (w : World Cpu) (p d : ℕ) (y : Slot) → has_slot Cpu fresh act w p d ≡ true → slot Cpu fresh act (with_slot Cpu fresh act w p d y) p d ≡ y
+  pub slot_put : (w : World Cpu) (p d : ℕ) (y : Slot) → has_slot Cpu fresh act w p d ≡ true → slot Cpu fresh act (with_slot Cpu fresh act w p d y) p d ≡ y
   unfolding slot with_slot with_object object has_slot slots_of
   slot_put w p d y h = rw (p_table, ne_eqb (table_of Cpu fresh act (get_or w.objects p gone)) 0 has_table) (ap (λ (x : Object Cpu). get_or (slots_of Cpu fresh act x) d empty) (set_here w.objects T X gone there) ∙ filled_in Cpu fresh act (get_or w.objects T gone) d y room)
     where
@@ -55,7 +55,7 @@ module _ (Cpu : Type 0) (fresh : ℕ → Cpu) (act : Cpu → (ℕ → ℕ) → A
           (λ q. table_kept Cpu fresh act (get_or w.objects T gone) (set (slots_of Cpu fresh act (get_or w.objects T gone)) d y) ∙ ap (λ (i : ℕ). table_of Cpu fresh act (get_or w.objects i gone)) q) refl
 
   -- a thread in another state: slots are as they were
-  table_state : (x : Object Cpu) (s : State Cpu) (c : Cpu) → table_of Cpu fresh act (set_state Cpu fresh act x s c) ≡ table_of Cpu fresh act x
+  pub table_state : (x : Object Cpu) (s : State Cpu) (c : Cpu) → table_of Cpu fresh act (set_state Cpu fresh act x s c) ≡ table_of Cpu fresh act x
   unfolding table_of set_state
   table_state gone s c = refl
   table_state (pool f n u) s c = refl
@@ -65,7 +65,7 @@ module _ (Cpu : Type 0) (fresh : ℕ → Cpu) (act : Cpu → (ℕ → ℕ) → A
   table_state (thread f q d t ps rs) s c = refl
   table_state (line xs ys) s c = refl
 
-  slots_state : (x : Object Cpu) (s : State Cpu) (c : Cpu) → slots_of Cpu fresh act (set_state Cpu fresh act x s c) ≡ slots_of Cpu fresh act x
+  pub slots_state : (x : Object Cpu) (s : State Cpu) (c : Cpu) → slots_of Cpu fresh act (set_state Cpu fresh act x s c) ≡ slots_of Cpu fresh act x
   unfolding slots_of set_state
   slots_state gone s c = refl
   slots_state (pool f n u) s c = refl
@@ -75,7 +75,7 @@ module _ (Cpu : Type 0) (fresh : ℕ → Cpu) (act : Cpu → (ℕ → ℕ) → A
   slots_state (thread f q d t ps rs) s c = refl
   slots_state (line xs ys) s c = refl
 
-  slot_stays : (w : World Cpu) (p d : ℕ) (s : State Cpu) (c : Cpu) → slot Cpu fresh act (with_object Cpu fresh act w p (set_state Cpu fresh act (obj w p) s c)) p d ≡ slot Cpu fresh act w p d
+  pub slot_stays : (w : World Cpu) (p d : ℕ) (s : State Cpu) (c : Cpu) → slot Cpu fresh act (with_object Cpu fresh act w p (set_state Cpu fresh act (obj w p) s c)) p d ≡ slot Cpu fresh act w p d
   unfolding slot with_object object
   slot_stays w p d s c = rw (tables p, slots (table_of Cpu fresh act (get_or w.objects p gone) - 1)) refl
     where
@@ -96,11 +96,6 @@ module _ (Cpu : Type 0) (fresh : ℕ → Cpu) (act : Cpu → (ℕ → ℕ) → A
     done : {v : World Cpu} (y : Slot) → v.lineage ≡ y ∷ w.lineage → v.births ≡ suc w.births → is_empty y ≡ false → is_empty (slot Cpu fresh act w p s) ≡ false →
         slot_mother y ≡ slot_birth (slot Cpu fresh act w p s) → slot_birth y ≡ suc w.births → slot Cpu fresh act v p d ≡ y → Deal w p s d (on v (0 ∷ []))
 
-  copied_full : (x : Slot) (r : Rights) (b i : ℕ) → is_empty x ≡ false → is_empty (copied x r b i) ≡ false
-  unfolding copied is_empty
-  copied_full empty r b i n = yes_no n
-  copied_full (cap o q c j m) r b i n = refl
-
   -- the same where something was born and recorded
   put_next : (w : World Cpu) (p d : ℕ) (y : Slot) (l : List Slot) → has_slot Cpu fresh act w p d ≡ true → slot Cpu fresh act (with_slot Cpu fresh act (record { objects = w.objects; births = suc w.births; lineage = l }) p d y) p d ≡ y
   unfolding has_slot object
@@ -112,7 +107,7 @@ module _ (Cpu : Type 0) (fresh : ℕ → Cpu) (act : Cpu → (ℕ → ℕ) → A
       pick_know (Deal w p s d) (no_copy Cpu fresh act w p s d) (λ _. not_done) (λ g.
       let n = or_left _ _ g in
       let f = copied_is Cpu fresh act (slot Cpu fresh act w p s) r b (suc w.births) n in
-      done (copied (slot Cpu fresh act w p s) r b (suc w.births)) refl refl (copied_full _ r b _ n) n f.0 f.1 (put_next w p d _ _ (both_hold _ _ (or_right _ _ (or_right (is_empty (slot Cpu fresh act w p s)) _ g)))))
+      done (copied (slot Cpu fresh act w p s) r b (suc w.births)) refl refl (copied_full Cpu fresh act _ r b _ n) n f.0 f.1 (put_next w p d _ _ (both_hold _ _ (or_right _ _ (or_right (is_empty (slot Cpu fresh act w p s)) _ g)))))
   deal z w p (by_cut {s} {d} {k}) =
       pick_know (Deal w p s d) (no_cut Cpu fresh act w p s d) (λ _. not_done) (λ g.
       let x = slot Cpu fresh act w p s in
@@ -208,7 +203,7 @@ module _ (Cpu : Type 0) (fresh : ℕ → Cpu) (act : Cpu → (ℕ → ℕ) → A
       rw (comes_in_is Cpu fresh act z w o b (obj w o)) (by_line (Recorded z w (byte o b)) (obj w o) (as_was refl) (λ xs ys e. pick_both (Recorded z w (byte o b)) (ltb (length ys) z.heard) (as_was refl) (as_was refl)))
 
   -- an entry of the record: k was made from j
-  data Entry (j k : ℕ) : List Slot → Type 0 where
+  pub data Entry (j k : ℕ) : List Slot → Type 0 where
     here : {y : Slot} {xs : List Slot} → is_empty y ≡ false → slot_mother y ≡ j → slot_birth y ≡ k → Entry j k (y ∷ xs)
     beyond : {y : Slot} {xs : List Slot} → Entry j k xs → Entry j k (y ∷ xs)
 
@@ -233,16 +228,16 @@ module _ (Cpu : Type 0) (fresh : ℕ → Cpu) (act : Cpu → (ℕ → ℕ) → A
   entry_small : (j k : ℕ) (w v : World Cpu) → Change Cpu fresh act w v → Entry j k w.lineage → Entry j k v.lineage
   entry_small j k w v c i = go c.lines
     where
-      go : (v.lineage ≡ w.lineage) ⊎ ((e : Slot) × (v.lineage ≡ e ∷ w.lineage) × (slot_birth e ≤ v.births)) → Entry j k v.lineage
+      go : (v.lineage ≡ w.lineage) ⊎ ((v.lineage ≡ c.new ∷ w.lineage) × (is_empty c.new ≡ false)) → Entry j k v.lineage
       go (inl h) = subst (Entry j k) (sym h) i
-      go (inr h) = subst (Entry j k) (sym h.1) (beyond i)
+      go (inr h) = subst (Entry j k) (sym h.0) (beyond i)
 
   entry_run : (j k : ℕ) (z : Sizes) (w : World Cpu) (es : List Event) → Entry j k w.lineage → Entry j k (run Cpu fresh act z w es).lineage
   unfolding cleared
   entry_run j k = run_keeps Cpu fresh act (λ w. Entry j k w.lineage) (entry_small j k) (λ w ids os c i. i)
 
   -- entries one after the other
-  data Chain (xs : List Slot) (j : ℕ) : ℕ → Type 0 where
+  pub data Chain (xs : List Slot) (j : ℕ) : ℕ → Type 0 where
     single : {k : ℕ} → Entry j k xs → Chain xs j k
     further : {i k : ℕ} → Chain xs j i → Entry i k xs → Chain xs j k
 
@@ -250,7 +245,7 @@ module _ (Cpu : Type 0) (fresh : ℕ → Cpu) (act : Cpu → (ℕ → ℕ) → A
   chain_on a (single e) = further a e
   chain_on a (further b e) = further (chain_on a b) e
 
-  made_chain : (z : Sizes) (w : World Cpu) (es : List Event) (j k : ℕ) → MadeHere z w es j k → Chain (run Cpu fresh act z w es).lineage j k
+  pub made_chain : (z : Sizes) (w : World Cpu) (es : List Event) (j k : ℕ) → MadeHere z w es j k → Chain (run Cpu fresh act z w es).lineage j k
   unfolding run
   made_chain z w (e ∷ es) j k (in_first m) = single (entry_run j k z (event Cpu fresh act z w e) es (made_entry z w e j k m))
   made_chain z w (e ∷ es) j k (in_rest m) = made_chain z (event Cpu fresh act z w e) es j k m

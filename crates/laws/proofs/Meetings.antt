@@ -47,7 +47,7 @@ module _ (Cpu : Type 0) (fresh : ℕ → Cpu) (act : Cpu → (ℕ → ℕ) → A
 
   module _ (z : Sizes) {w : World Cpu} (i : Orderly Cpu fresh act w) (p f a : ℕ) (c : Cpu) (ps : List ℕ) (rs : List Bool) (r : obj w p ≡ thread f ready c a ps rs) where
     -- who waited goes on
-    woken : (then : List ℕ → Cpu) (o g : ℕ) (q : List Wait) (y : Wait) (h : Bool) (j s b d : ℕ) (us vs : List ℕ) → obj w o ≡ port g (y ∷ q) →
+    pub woken : (then : List ℕ → Cpu) (o g : ℕ) (q : List Wait) (y : Wait) (h : Bool) (j s b d : ℕ) (us vs : List ℕ) → obj w o ≡ port g (y ∷ q) →
         Woken Cpu fresh act w (went_on Cpu fresh act w p then (on (resumed Cpu fresh act (handed Cpu fresh act (with_object Cpu fresh act w o (port g q)) h j s b d) (waits_thread Cpu fresh act y) us) vs)) o (waits_thread Cpu fresh act y) us
     unfolding Woken went_on view
     woken then o g q y h j s b d us vs e =
@@ -97,7 +97,7 @@ module _ (Cpu : Type 0) (fresh : ℕ → Cpu) (act : Cpu → (ℕ → ℕ) → A
         at (inr y) = subst (Said z w V (tick p)) y (subst (λ (i : ℕ). BothGoOn Cpu fresh act z w V (tick p) o u i b ws) (sym tp)
             (sender_waited (woken then o n1 q1 (sender u b ws hh gg ss) h j s b1 d1 (0 ∷ []) (0 ∷ b ∷ ws) q) (replied d then m o n1 q1 (sender u b ws hh gg ss) h j s b1 d1 (0 ∷ []) (0 ∷ b ∷ ws) q)))
 
-    said_call : (d : Call) (then : List ℕ → Cpu) → act c (seen Cpu fresh act z w ps) ≡ call d then → (ns ms : List Note) (k : Note) → call_noted Cpu fresh act z w p d ≡ ns ++ k ∷ ms →
+    said_call : (d : Call) (then : List ℕ → Cpu) → act c (seen Cpu fresh act z w ps) ≡ call d then → (ns ms : List Note) (k : Note) → call_noted Cpu fresh act (does Cpu fresh act) z w p d ≡ ns ++ k ∷ ms →
         Said z w (went_on Cpu fresh act w p then (does Cpu fresh act z w p d)) (tick p) k
     unfolding call_noted waits_thread
     said_call (cut s k d) then m ns ms n e = in_none ns ms n e
@@ -114,14 +114,14 @@ module _ (Cpu : Type 0) (fresh : ℕ → Cpu) (act : Cpu → (ℕ → ℕ) → A
     said_call (say s b) then m ns ms n e = in_none ns ms n e
     said_call (hear s) then m ns ms n e = in_none ns ms n e
 
-    said_act : (x : Act Cpu) → act c (seen Cpu fresh act z w ps) ≡ x → (ns ms : List Note) (k : Note) → act_noted Cpu fresh act z w p x ≡ ns ++ k ∷ ms → Said z w (acts Cpu fresh act z w p ps rs x) (tick p) k
+    said_act : (x : Act Cpu) → act c (seen Cpu fresh act z w ps) ≡ x → (ns ms : List Note) (k : Note) → act_noted Cpu fresh act (does Cpu fresh act) z w p x ≡ ns ++ k ∷ ms → Said z w (acts Cpu fresh act z w p ps rs x) (tick p) k
     unfolding act_noted acts
     said_act (quiet d) m ns ms n e = in_none ns ms n e
     said_act (store b bs d) m ns ms n e = in_none ns ms n e
     said_act (call d then) m ns ms n e = said_call d then m ns ms n e
     said_act wrong m ns ms n e = in_none ns ms n e
 
-  said_tick : (z : Sizes) (w : World Cpu) (i : Orderly Cpu fresh act w) (p : ℕ) (x : Object Cpu) → obj w p ≡ x → (ns ms : List Note) (k : Note) → tick_noted Cpu fresh act z w p x ≡ ns ++ k ∷ ms →
+  said_tick : (z : Sizes) (w : World Cpu) (i : Orderly Cpu fresh act w) (p : ℕ) (x : Object Cpu) → obj w p ≡ x → (ns ms : List Note) (k : Note) → tick_noted Cpu fresh act (does Cpu fresh act) z w p x ≡ ns ++ k ∷ ms →
       Said z w (ticked Cpu fresh act z w p x) (tick p) k
   unfolding tick_noted ticked
   said_tick z w i p gone r ns ms k e = in_none ns ms k e
@@ -134,7 +134,7 @@ module _ (Cpu : Type 0) (fresh : ℕ → Cpu) (act : Cpu → (ℕ → ℕ) → A
   said_tick z w i p (thread f (waits o then) c t ps rs) r ns ms k e = in_none ns ms k e
   said_tick z w i p (line xs ys) r ns ms k e = in_none ns ms k e
 
-  said_event : (z : Sizes) (w : World Cpu) (i : Orderly Cpu fresh act w) (x : Event) (ns ms : List Note) (k : Note) → event_noted Cpu fresh act z w x ≡ ns ++ k ∷ ms → Said z w (event Cpu fresh act z w x) x k
+  said_event : (z : Sizes) (w : World Cpu) (i : Orderly Cpu fresh act w) (x : Event) (ns ms : List Note) (k : Note) → event_noted Cpu fresh act (does Cpu fresh act) z w x ≡ ns ++ k ∷ ms → Said z w (event Cpu fresh act z w x) x k
   unfolding event_noted event
   said_event z w i (tick p) ns ms k e = said_tick z w i p (obj w p) refl ns ms k e
   said_event z w i (byte o b) ns ms k e = in_none ns ms k e

@@ -19,7 +19,7 @@ use Rattle.laws.proofs.Steps.{waits_at, view, waiting_of, SameFace, AllSeen, Sam
 use Rattle.laws.proofs.Sweeping.{AfterSweep, lost, untouched, slots_go, waits_go, goes_calm, goes_waiting, goes_woken, swept_at}
 
 -- a slot of a list with x in a place
-at_slot : (ss : List Slot) (d i : ℕ) (x y : Slot) → get_or (set ss d x) i empty ≡ y → (get_or ss i empty ≡ y) ⊎ (x ≡ y)
+pub at_slot : (ss : List Slot) (d i : ℕ) (x y : Slot) → get_or (set ss d x) i empty ≡ y → (get_or ss i empty ≡ y) ⊎ (x ≡ y)
 at_slot [] d i x y e = inl e
 at_slot (s ∷ ss) zero zero x y e = inr e
 at_slot (s ∷ ss) zero (suc i) x y e = inl e
@@ -135,7 +135,7 @@ module _ (Cpu : Type 0) (fresh : ℕ → Cpu) (act : Cpu → (ℕ → ℕ) → A
   unfolding with_slots slots_of In
   turn_slots w new u gone d s e h = kept
   turn_slots w new u (pool f n k) d s e h = kept
-  turn_slots w new u (table f ss) d s e h = slotted (λ i y g n. go i y n (at_slot ss d i s y g))
+  turn_slots w new u (table f ss) d s e h = slotted (length-set ss d s) (λ i y g n. go i y n (at_slot ss d i s y g))
     where
       in_it : (i : ℕ) (y : Slot) → get_or ss i empty ≡ y → is_empty y ≡ false → In Cpu fresh act w y
       in_it i y g n = (u, i, ap (λ (k : Object Cpu). get_or (slots_of Cpu fresh act k) i empty) e ∙ g, n)
@@ -203,6 +203,11 @@ module _ (Cpu : Type 0) (fresh : ℕ → Cpu) (act : Cpu → (ℕ → ℕ) → A
   copied_is empty r b i n = yes_no n
   copied_is (cap o q c j m) r b i n = (refl, refl, refl, (and_left q.reads r.reads, and_left q.writes r.writes, and_left q.hands r.hands))
 
+  pub copied_full : (x : Slot) (r : Rights) (b i : ℕ) → is_empty x ≡ false → is_empty (copied x r b i) ≡ false
+  unfolding copied is_empty
+  copied_full empty r b i n = yes_no n
+  copied_full (cap o q c j m) r b i n = refl
+
   pub small_copy : (w : World Cpu) (p s d : ℕ) (r : Rights) (b : ℕ) → is_empty (slot Cpu fresh act w p s) ≡ false →
       Change Cpu fresh act w (with_slot Cpu fresh act (record { objects = w.objects; births = suc w.births; lineage = copied (slot Cpu fresh act w p s) r b (suc w.births) ∷ w.lineage }) p d
       (copied (slot Cpu fresh act w p s) r b (suc w.births)))
@@ -219,7 +224,7 @@ module _ (Cpu : Type 0) (fresh : ℕ → Cpu) (act : Cpu → (ℕ → ℕ) → A
         birth = λ _. record { mother = slot Cpu fresh act w p s; here = slot_in w p s n; from_it = f.0; now = f.1; counted = omega arith; leads = inl (f.2, f.3) };
         more = omega arith;
         grows = simp length-set (omega arith);
-        lines = inr (e, refl, let g = f.1 in omega arith);
+        lines = inr (refl, copied_full (slot Cpu fresh act w p s) r b (suc w.births) n);
       }
 
   pub all_copy : (w : World Cpu) (p d : ℕ) (s e : Slot) → SameFaces Cpu fresh act w (with_slot Cpu fresh act (record { objects = w.objects; births = suc w.births; lineage = e ∷ w.lineage }) p d s)

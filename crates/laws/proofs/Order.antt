@@ -8,9 +8,9 @@ use native.Mathlib.Omega.{arith}
 use lib.Dec.{eqb}
 use borrow.Author.Tests.{eqb-true, eq-eqb, ne_eqb}
 use lib.ListN.{length, get_or}
-use Rattle.rights.specs.World.{pick, Slot, Act, Wait, sender, receiver, State, stopped, ready, waits, Object, gone, thread, line, Sizes, World, Event}
+use Rattle.rights.specs.World.{does, pick, Slot, Act, Wait, sender, receiver, State, stopped, ready, waits, Object, gone, thread, line, Sizes, World, Event}
 use Rattle.rights.specs.World.{among, object, with_object, from_of, waits_thread, without_threads, cleared, set_state, went_on, event, run}
-use Rattle.rights.specs.Promise.{waiters, Kinds, Uncut, Note, sends, receives, meets, Sent, message, Meeting, got_by, sent_at, asked_at, met_at}
+use Rattle.rights.specs.Promise.{FirstComeIn, waiters, Kinds, Uncut, Note, sends, receives, meets, Sent, message, Meeting, got_by, sent_at, asked_at, met_at}
 use Rattle.rights.specs.Promise.{paired, row_of, event_noted, log, FirstCome}
 use Rattle.laws.proofs.Tests.{yes_no, no_yes, clash, either_way, same_or_not, not_true, set_by, inside}
 use Rattle.laws.proofs.Steps.{is_sender, came, met, Turn, kept, spoken, stored, mapped, bound, ran, rowed, drawn, slotted, cut_new, AllCut}
@@ -56,7 +56,7 @@ asked-++ o (receives k t ∷ ns) ls = go (eqb k o) (asked-++ o ns ls)
     go false r = r
 asked-++ o (meets k t q b ws ∷ ns) ls = asked-++ o ns ls
 
-met-++ : (o : ℕ) (ns ls : List Note) → met_at o (ns ++ ls) ≡ met_at o ns ++ met_at o ls
+pub met-++ : (o : ℕ) (ns ls : List Note) → met_at o (ns ++ ls) ≡ met_at o ns ++ met_at o ls
 unfolding met_at
 met-++ o [] ls = refl
 met-++ o (sends k t b ws ∷ ns) ls = met-++ o ns ls
@@ -180,7 +180,7 @@ module _ (Cpu : Type 0) (fresh : ℕ → Cpu) (act : Cpu → (ℕ → ℕ) → A
   turn_uncut ran h f t s c ps rs e = let i = h _ _ _ _ _ _ refl in cc
   turn_uncut rowed h f t s c ps rs e = clash (cc)
   turn_uncut (drawn g) h f t s c ps rs e = clash (cc)
-  turn_uncut (slotted g) h f t s c ps rs e = clash (cc)
+  turn_uncut (slotted l g) h f t s c ps rs e = clash (cc)
   turn_uncut (cut_new o z k l g) h f t s c ps rs e = absurd (made_no_thread Cpu fresh act z (suc o) k f t s c ps rs e)
 
   swept_uncut : {ids os : List ℕ} {u : ℕ} {x y : Object Cpu} → AfterSweep Cpu fresh act ids os u x y →
@@ -193,7 +193,7 @@ module _ (Cpu : Type 0) (fresh : ℕ → Cpu) (act : Cpu → (ℕ → ℕ) → A
   swept_uncut (goes_waiting k ns l g) h f t s c ps rs e = let i = h _ _ _ _ _ _ refl in cc
   swept_uncut (goes_woken o then k ns l g) h f t s c ps rs e = let i = h _ _ _ _ _ _ refl in cc
 
-  uncut_event : (z : Sizes) (w : World Cpu) (e : Event) → Uncut Cpu fresh act w → Uncut Cpu fresh act (event Cpu fresh act z w e)
+  pub uncut_event : (z : Sizes) (w : World Cpu) (e : Event) → Uncut Cpu fresh act w → Uncut Cpu fresh act (event Cpu fresh act z w e)
   unfolding Uncut
   uncut_event = event_keeps Cpu fresh act (Uncut Cpu fresh act) (λ w v c h o. turn_uncut (c.turns o) (h o)) (λ w ids os c h o. swept_uncut (swept_at Cpu fresh act w ids os o) (h o))
 
@@ -215,7 +215,7 @@ module _ (Cpu : Type 0) (fresh : ℕ → Cpu) (act : Cpu → (ℕ → ℕ) → A
   turn_dead k l ran q e = clash (cc)
   turn_dead k l rowed q e = clash (cc)
   turn_dead k l (drawn g) q e = clash (cc)
-  turn_dead k l (slotted g) q e = clash (cc)
+  turn_dead k l (slotted m g) q e = clash (cc)
   turn_dead k l (cut_new o z j i g) q e = absurd (omega arith)
 
   swept_dead : {ids os : List ℕ} {u : ℕ} {x y : Object Cpu} → AfterSweep Cpu fresh act ids os u x y → x ≡ gone → y ≡ gone
@@ -244,7 +244,7 @@ module _ (Cpu : Type 0) (fresh : ℕ → Cpu) (act : Cpu → (ℕ → ℕ) → A
   dead_noted o {w} (calls p then e (joins k {f} {q} x y h u l b c s at t n)) d =
       let other : (k ≡ o → ⊥) = (λ r. let m : obj w k ≡ gone = ap (λ (i : ℕ). obj w i) r ∙ d in clash (cc)) in elsewhere-++ o (came k x ∷ []) (met k x y) (elsewhere_came o k x other) (elsewhere_met o k x y other)
 
-  dead_log : (o : ℕ) (z : Sizes) (w : World Cpu) (es : List Event) → Dead o w → Elsewhere o (log Cpu fresh act z w es)
+  dead_log : (o : ℕ) (z : Sizes) (w : World Cpu) (es : List Event) → Dead o w → Elsewhere o (log Cpu fresh act (does Cpu fresh act) (event Cpu fresh act) z w es)
   unfolding log Dead
   dead_log o z w [] d = elsewhere_none o
   dead_log o z w (e ∷ es) d = elsewhere-++ o _ _ (dead_noted o (happens Cpu fresh act z w e) d.2) (dead_log o z (event Cpu fresh act z w e) es (dead_event o z w e d))
@@ -314,7 +314,7 @@ module _ (Cpu : Type 0) (fresh : ℕ → Cpu) (act : Cpu → (ℕ → ℕ) → A
         (subst (λ (l : List Wait). At o (came o x ∷ met o x y) (y ∷ r) l) (sym (ap (λ (m : ℕ). row Cpu fresh act v m) (sym q) ∙ ch.here)) (first x y op)))))
         (λ d. inl (subst (λ (l : List Wait). At o (came n x ∷ met n x y) (row Cpu fresh act w o) l) (sym (ch.elsewhere o (λ q. d (sym q)))) (apart (elsewhere-++ o (came n x ∷ []) (met n x y) (elsewhere_came o n x d) (elsewhere_met o n x y d)))))
 
-  fits_all : (o : ℕ) (z : Sizes) (w : World Cpu) (es : List Event) → Kinds Cpu fresh act w → Orderly Cpu fresh act w → Uncut Cpu fresh act w → Fits o (row Cpu fresh act w o) (log Cpu fresh act z w es)
+  fits_all : (o : ℕ) (z : Sizes) (w : World Cpu) (es : List Event) → Kinds Cpu fresh act w → Orderly Cpu fresh act w → Uncut Cpu fresh act w → Fits o (row Cpu fresh act w o) (log Cpu fresh act (does Cpu fresh act) (event Cpu fresh act) z w es)
   unfolding log SeenAt
   fits_all o z w [] k i u = fits_end o (row Cpu fresh act w o) [] (i.sides o) (elsewhere_none o)
   fits_all o z w (e ∷ es) k i u = go (sees o k i u k' (happens Cpu fresh act z w e)) (fits_all o z (event Cpu fresh act z w e) es k' (orderly_event Cpu fresh act k (happens Cpu fresh act z w e) i) (uncut_event z w e u))
@@ -323,14 +323,14 @@ module _ (Cpu : Type 0) (fresh : ℕ → Cpu) (act : Cpu → (ℕ → ℕ) → A
       k' = kinds_event Cpu fresh act z w e k
 
       rest : List Note
-      rest = log Cpu fresh act z (event Cpu fresh act z w e) es
+      rest = log Cpu fresh act (does Cpu fresh act) (event Cpu fresh act) z (event Cpu fresh act z w e) es
 
-      go : At o (event_noted Cpu fresh act z w e) (row Cpu fresh act w o) (row Cpu fresh act (event Cpu fresh act z w e) o) ⊎ (Dead o (event Cpu fresh act z w e) × Elsewhere o (event_noted Cpu fresh act z w e)) →
-          Fits o (row Cpu fresh act (event Cpu fresh act z w e) o) rest → Fits o (row Cpu fresh act w o) (event_noted Cpu fresh act z w e ++ rest)
+      go : At o (event_noted Cpu fresh act (does Cpu fresh act) z w e) (row Cpu fresh act w o) (row Cpu fresh act (event Cpu fresh act z w e) o) ⊎ (Dead o (event Cpu fresh act z w e) × Elsewhere o (event_noted Cpu fresh act (does Cpu fresh act) z w e)) →
+          Fits o (row Cpu fresh act (event Cpu fresh act z w e) o) rest → Fits o (row Cpu fresh act w o) (event_noted Cpu fresh act (does Cpu fresh act) z w e ++ rest)
       go (inl a) h = fits_on o rest a (i.sides o) h
       go (inr d) h = fits_end o (row Cpu fresh act w o) _ (i.sides o) (elsewhere-++ o _ rest d.1 (dead_log o z (event Cpu fresh act z w e) es d.0))
 
   pub first_come : FirstCome Cpu fresh act
-  unfolding FirstCome Fits msgs asks
+  unfolding FirstCome FirstComeIn Fits msgs asks
   first_come z v es o one p k u =
-      subst (λ (q : List Wait). Fits o q (log Cpu fresh act z v es)) (calm_row Cpu fresh act v p o (obj v o) refl) (fits_all o z v es k (orderly_first Cpu fresh act v p) u)
+      subst (λ (q : List Wait). Fits o q (log Cpu fresh act (does Cpu fresh act) (event Cpu fresh act) z v es)) (calm_row Cpu fresh act v p o (obj v o) refl) (fits_all o z v es k (orderly_first Cpu fresh act v p) u)

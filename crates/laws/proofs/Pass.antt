@@ -117,14 +117,14 @@ module _ (Cpu : Type 0) (fresh : ℕ → Cpu) (act : Cpu → (ℕ → ℕ) → A
     -- the two calls whole
     pub c_send : (z : Sizes) (w : World Cpu) (s : ℕ) (ws : List ℕ) (g : Bool) (h : ℕ) →
         Coming Cpu fresh act w (port_at Cpu fresh act w p s) (sender p (slot_badge (slot Cpu fresh act w p s)) (take 4 ws) (slot_rights (slot Cpu fresh act w p s)).hands g h)
-        (call_noted Cpu fresh act z w p (send s ws g h)) (does Cpu fresh act z w p (send s ws g h))
+        (call_noted Cpu fresh act (does Cpu fresh act) z w p (send s ws g h)) (does Cpu fresh act z w p (send s ws g h))
     unfolding does call_noted send_noted refuse port_at
     c_send z w s ws g h =
         pick_both (λ (r : Went Cpu fresh act). Coming Cpu fresh act w (port_at Cpu fresh act w p s) (sender p (slot_badge (slot Cpu fresh act w p s)) (take 4 ws) (slot_rights (slot Cpu fresh act w p s)).hands g h)
         (send_noted Cpu fresh act (port_at Cpu fresh act w p s) p (first_at Cpu fresh act w (port_at Cpu fresh act w p s)) (slot_badge (slot Cpu fresh act w p s)) (take 4 ws) r) r) _ turned_away (at_send w _ _ _ _ g h)
 
     pub c_receive : (z : Sizes) (w : World Cpu) (s d : ℕ) →
-        Coming Cpu fresh act w (port_at Cpu fresh act w p s) (receiver p d) (call_noted Cpu fresh act z w p (receive s d)) (does Cpu fresh act z w p (receive s d))
+        Coming Cpu fresh act w (port_at Cpu fresh act w p s) (receiver p d) (call_noted Cpu fresh act (does Cpu fresh act) z w p (receive s d)) (does Cpu fresh act z w p (receive s d))
     unfolding does call_noted receive_noted refuse port_at
     c_receive z w s d =
         pick_both (λ (r : Went Cpu fresh act). Coming Cpu fresh act w (port_at Cpu fresh act w p s) (receiver p d)
@@ -192,7 +192,7 @@ module _ (Cpu : Type 0) (fresh : ℕ → Cpu) (act : Cpu → (ℕ → ℕ) → A
     leads_to (cap o r b j m) n = ap suc (sym (less_one o))
 
     -- THE CALLS
-    d_does : (z : Sizes) (w : World Cpu) (c : Call) → Doing Cpu fresh act w p (call_noted Cpu fresh act z w p c) (does Cpu fresh act z w p c)
+    d_does : (z : Sizes) (w : World Cpu) (c : Call) → Doing Cpu fresh act w p (call_noted Cpu fresh act (does Cpu fresh act) z w p c) (does Cpu fresh act z w p c)
     unfolding does call_noted waits_thread
     d_does z w (cut s k d) =
         pick_know (Doing Cpu fresh act w p []) (no_cut Cpu fresh act w p s d) (λ _. refused w)
@@ -230,7 +230,7 @@ module _ (Cpu : Type 0) (fresh : ℕ → Cpu) (act : Cpu → (ℕ → ℕ) → A
           (goes [] (one Cpu fresh act (small (small_set Cpu fresh act w u (obj w u) _ refl (stored p (i / z.bytes) e q))))
           (λ k. let y = k.its_pages p f a (i / z.bytes) u ready c ps rs e q in alike_set Cpu fresh act w u (obj w u) _ refl (stores_alike (obj w u) y.0 _ _ y.1 y.2)))
 
-  d_acts : (z : Sizes) (w : World Cpu) (p f a : ℕ) (c : Cpu) (ps : List ℕ) (rs : List Bool) (x : Act Cpu) → obj w p ≡ thread f ready c a ps rs → Outcome Cpu fresh act w (act_noted Cpu fresh act z w p x) (acts Cpu fresh act z w p ps rs x)
+  d_acts : (z : Sizes) (w : World Cpu) (p f a : ℕ) (c : Cpu) (ps : List ℕ) (rs : List Bool) (x : Act Cpu) → obj w p ≡ thread f ready c a ps rs → Outcome Cpu fresh act w (act_noted Cpu fresh act (does Cpu fresh act) z w p x) (acts Cpu fresh act z w p ps rs x)
   unfolding acts act_noted went_on
   d_acts z w p f a c ps rs (quiet d) e = calls p (λ _. d) e (goes [] none (λ _ u. alike Cpu fresh act _))
   d_acts z w p f a c ps rs (store i bs d) e =
@@ -238,7 +238,7 @@ module _ (Cpu : Type 0) (fresh : ℕ → Cpu) (act : Cpu → (ℕ → ℕ) → A
   d_acts z w p f a c ps rs (call d then) e = calls p then e (d_does p z w d)
   d_acts z w p f a c ps rs wrong e = stops p e
 
-  d_ticked : (z : Sizes) (w : World Cpu) (p : ℕ) (x : Object Cpu) → obj w p ≡ x → Outcome Cpu fresh act w (tick_noted Cpu fresh act z w p x) (ticked Cpu fresh act z w p x)
+  d_ticked : (z : Sizes) (w : World Cpu) (p : ℕ) (x : Object Cpu) → obj w p ≡ x → Outcome Cpu fresh act w (tick_noted Cpu fresh act (does Cpu fresh act) z w p x) (ticked Cpu fresh act z w p x)
   unfolding ticked tick_noted
   d_ticked z w p gone e = nothing
   d_ticked z w p (pool f n u) e = nothing
@@ -256,7 +256,7 @@ module _ (Cpu : Type 0) (fresh : ℕ → Cpu) (act : Cpu → (ℕ → ℕ) → A
       rw (comes_in_is Cpu fresh act z w o b (obj w o)) (by_line (Outcome Cpu fresh act w []) (obj w o) nothing (λ xs ys e. pick_both (Outcome Cpu fresh act w []) (ltb (length ys) z.heard) (heard o (ys ++ b ∷ []) e) nothing))
 
   -- every event
-  pub happens : (z : Sizes) (w : World Cpu) (e : Event) → Outcome Cpu fresh act w (event_noted Cpu fresh act z w e) (event Cpu fresh act z w e)
+  pub happens : (z : Sizes) (w : World Cpu) (e : Event) → Outcome Cpu fresh act w (event_noted Cpu fresh act (does Cpu fresh act) z w e) (event Cpu fresh act z w e)
   unfolding event event_noted
   happens z w (tick p) = d_ticked z w p (obj w p) refl
   happens z w (byte o b) = d_comes z w o b

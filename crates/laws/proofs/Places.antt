@@ -90,7 +90,7 @@ module _ (Cpu : Type 0) (fresh : ℕ → Cpu) (act : Cpu → (ℕ → ℕ) → A
     turn_table ran q (g, ss, e) = clash (cc)
     turn_table rowed q (g, ss, e) = clash (cc)
     turn_table (drawn n) q (g, ss, e) = clash (cc)
-    turn_table (slotted n) q (g, ss, e) = (_, _, refl)
+    turn_table (slotted l n) q (g, ss, e) = (_, _, refl)
     turn_table (cut_new o z j l n) q (g, ss, e) = clash (cc)
 
     turn_page : {new : Slot} {u : ℕ} {x y : Object Cpu} → Turn Cpu fresh act w new u x y → PageThere x → PageThere y
@@ -103,7 +103,7 @@ module _ (Cpu : Type 0) (fresh : ℕ → Cpu) (act : Cpu → (ℕ → ℕ) → A
     turn_page ran (g, bs, e) = clash (cc)
     turn_page rowed (g, bs, e) = clash (cc)
     turn_page (drawn n) (g, bs, e) = clash (cc)
-    turn_page (slotted n) (g, bs, e) = clash (cc)
+    turn_page (slotted l n) (g, bs, e) = clash (cc)
     turn_page (cut_new o z j l n) (g, bs, e) = clash (cc)
 
     turn_pool : {new : Slot} {u : ℕ} {x y : Object Cpu} → Turn Cpu fresh act w new u x y → obj w u ≡ x → PoolThere x → PoolThere y
@@ -116,7 +116,7 @@ module _ (Cpu : Type 0) (fresh : ℕ → Cpu) (act : Cpu → (ℕ → ℕ) → A
     turn_pool ran q (g, m, v, e) = clash (cc)
     turn_pool rowed q (g, m, v, e) = clash (cc)
     turn_pool (drawn n) q h = (_, _, _, refl)
-    turn_pool (slotted n) q (g, m, v, e) = clash (cc)
+    turn_pool (slotted l n) q (g, m, v, e) = clash (cc)
     turn_pool (cut_new o z j l n) q (g, m, v, e) = clash (cc)
 
     -- what a thread's table number meant before the step
@@ -130,7 +130,7 @@ module _ (Cpu : Type 0) (fresh : ℕ → Cpu) (act : Cpu → (ℕ → ℕ) → A
     old_table {u} (ran {f = g} {a} {s = r} {c = d} {ps = ns} {rs = ms}) q f t s c ps rs e = let h : a ≡ suc t = cc in k.its_table u g t r d ns ms (q ∙ ap (λ (i : ℕ). thread g r d i ns ms) h)
     old_table rowed q f t s c ps rs e = clash (cc)
     old_table (drawn n) q f t s c ps rs e = clash (cc)
-    old_table (slotted n) q f t s c ps rs e = clash (cc)
+    old_table (slotted l n) q f t s c ps rs e = clash (cc)
     old_table (cut_new o z j l n) q f t s c ps rs e = absurd (made_no_thread z (suc o) j f (suc t) s c ps rs e)
 
     old_page : {new : Slot} {u : ℕ} {x y : Object Cpu} → Turn Cpu fresh act w new u x y → obj w u ≡ x → (f t i v : ℕ) (s : State Cpu) (c : Cpu) (ps : List ℕ) (rs : List Bool) → y ≡ thread f s c t ps rs → get_or ps i 0 ≡ suc v → PageThere (obj w v)
@@ -147,7 +147,7 @@ module _ (Cpu : Type 0) (fresh : ℕ → Cpu) (act : Cpu → (ℕ → ℕ) → A
     old_page {u} (ran {f = g₀} {a} {s = r} {c = d} {ps = ns} {rs = ms}) q f t i v s c ps rs e g = let h : ns ≡ ps = cc in k.its_pages u g₀ a i v r d ns ms q (subst (λ (xs : List ℕ). get_or xs i 0 ≡ suc v) (sym h) g)
     old_page rowed q f t i v s c ps rs e g = clash (cc)
     old_page (drawn n) q f t i v s c ps rs e g = clash (cc)
-    old_page (slotted n) q f t i v s c ps rs e g = clash (cc)
+    old_page (slotted l n) q f t i v s c ps rs e g = clash (cc)
     old_page (cut_new o z j l n) q f t i v s c ps rs e g = absurd (made_no_thread z (suc o) j f t s c ps rs e)
 
     old_pool : {new : Slot} {u : ℕ} {x y : Object Cpu} → Turn Cpu fresh act w new u x y → obj w u ≡ x → (v : ℕ) → from_of Cpu fresh act y ≡ suc v → PoolThere (obj w v)
@@ -162,7 +162,7 @@ module _ (Cpu : Type 0) (fresh : ℕ → Cpu) (act : Cpu → (ℕ → ℕ) → A
     old_pool {u} ran q v e = k.its_pool u v (ap (from_of Cpu fresh act) q ∙ e)
     old_pool {u} rowed q v e = k.its_pool u v (ap (from_of Cpu fresh act) q ∙ e)
     old_pool {u} (drawn n) q v e = k.its_pool u v (ap (from_of Cpu fresh act) q ∙ e)
-    old_pool {u} (slotted n) q v e = k.its_pool u v (ap (from_of Cpu fresh act) q ∙ e)
+    old_pool {u} (slotted l n) q v e = k.its_pool u v (ap (from_of Cpu fresh act) q ∙ e)
     old_pool (cut_new o z j l n) q v e = let h : suc o ≡ suc v = sym (made_from_it z (suc o) j) ∙ e in let m : o ≡ v = omega arith in subst (λ (i : ℕ). PoolThere (obj w i)) m (pool_is (obj w o) n)
 
     pub kinds_small : {v : World Cpu} → Change Cpu fresh act w v → Kinds Cpu fresh act v

@@ -7,7 +7,7 @@ use native.Mathlib.Omega.{arith}
 use lib.ListN.{length, get_or-eq_default}
 use Rattle.rights.specs.World.{Slot, Kind, a_pool, a_table, a_port, a_page, Act, Object, gone, pool, table, port, page, thread, line, Sizes, World}
 use Rattle.rights.specs.World.{Event, tick, byte, object, made, ticked, comes_in, event, run}
-use Rattle.rights.specs.Promise.{Within}
+use Rattle.rights.specs.Promise.{WithinIn, Within}
 use Rattle.laws.proofs.Tests.{no_yes}
 use Rattle.laws.proofs.Steps.{Turn, kept, spoken, stored, mapped, bound, ran, rowed, drawn, slotted, cut_new, one}
 use Rattle.laws.proofs.Sweeping.{AfterSweep, lost, untouched, slots_go, waits_go, goes_calm, goes_waiting, goes_woken, swept_at}
@@ -44,7 +44,7 @@ module _ (Cpu : Type 0) (fresh : ℕ → Cpu) (act : Cpu → (ℕ → ℕ) → A
   turn_fine ran h = tt
   turn_fine rowed h = tt
   turn_fine (drawn g) h = g
-  turn_fine (slotted g) h = tt
+  turn_fine (slotted l g) h = tt
   turn_fine (cut_new o z k l g) h = fine_made z (suc o) k
 
   swept_fine : {ids os : List ℕ} {u : ℕ} {x y : Object Cpu} → AfterSweep Cpu fresh act ids os u x y → Fine x → Fine y
@@ -80,7 +80,7 @@ module _ (Cpu : Type 0) (fresh : ℕ → Cpu) (act : Cpu → (ℕ → ℕ) → A
   from_fine x f n u e h = subst Fine e h
 
   pub within : Within Cpu fresh act
-  unfolding Within AllFine
+  unfolding Within WithinIn AllFine
   within z v es one h o f n u e = from_fine _ f n u e (fine_run z v es (λ i. to_fine (obj v i) (h i)) o)
 
   -- neither a thread nor a line
@@ -110,7 +110,7 @@ module _ (Cpu : Type 0) (fresh : ℕ → Cpu) (act : Cpu → (ℕ → ℕ) → A
   turn_dull ran h = no_yes h
   turn_dull rowed h = refl
   turn_dull (drawn g) h = refl
-  turn_dull (slotted g) h = refl
+  turn_dull (slotted l g) h = refl
   turn_dull (cut_new o z k l g) h = dull_made z (suc o) k
 
   swept_dull : {ids os : List ℕ} {u : ℕ} {x y : Object Cpu} → AfterSweep Cpu fresh act ids os u x y → dull x ≡ true → dull y ≡ true

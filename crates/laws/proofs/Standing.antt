@@ -1,36 +1,38 @@
 -- What is used of a pool covers what stands cut from it.
 use mathlib.Core.Path.{◌≡◌, refl, sym, ap, subst, ◌∙◌}
-use mathlib.Core.Bool.{Bool, true, false, ◌||◌, not}
+use mathlib.Core.Bool.{Bool, true, false, ◌||◌}
 use mathlib.Core.List.{List, [], ◌∷◌, ◌++◌}
 use mathlib.Core.Logic.{◌⊎◌, inl, inr}
-use Prim.Native.Nat.{ℕ, zero, suc, ◌+◌, ◌*◌, ◌-◌, ◌/◌, ◌%◌, ◌≤◌, zero-le}
+use Prim.Native.Nat.{ℕ, suc, ◌+◌, ◌*◌, ◌%◌, ◌≤◌, zero-le}
 use native.Mathlib.Omega.{arith}
 use lib.Dec.{ltb, eqb}
 use borrow.Author.Tests.{eq-eqb, ne_eqb}
-use lib.ListN.{length, get_or, get_or-eq_default, set, length-replicate}
-use Rattle.rights.specs.World.{pick, over, Rights, Slot, empty, Kind, a_pool, a_table, a_port, a_page, Call, cut, copy, move, drop_it, revoke, send, receive, map, unmap, bind, go, say, hear}
+use lib.ListN.{length, get_or, get_or-eq_default, set, replicate, length-replicate}
+use Rattle.rights.specs.World.{pick, Rights, Slot, empty, Kind, a_pool, a_table, a_port, a_page, Call, cut, copy, move, drop_it, revoke, send, receive, map, unmap, bind, go, say, hear}
 use Rattle.rights.specs.World.{Act, quiet, store, call, wrong, State, stopped, ready, waits, Object, gone, pool, table, port, page, thread, line, Sizes, World, Event, tick, byte}
-use Rattle.rights.specs.World.{cost, step_of, up_to, slot_birth, is_empty, copied, too_many, among, object, with_object, slot, has_slot, from_of, offspring, cuttings, emptied, cleared, refilled, made}
-use Rattle.rights.specs.World.{Went, on, wait, refuse, cutting, is_pool, revoking, set_state, bytes_of, from_page, seen, stores, may_store, does, went_on, acts, ticked, comes_in, event, run}
-use Rattle.rights.specs.Promise.{Kinds, cost_of, standing, UsedCoversIn, UsedCovers}
-use Rattle.laws.proofs.Tests.{no_yes, clash, pick_both, pick_know, same_or_not, both_ways, or_right, both_hold, and_left, less_one, set_apart, set_by, at_end, push_by}
+use Rattle.rights.specs.World.{cost, step_of, up_to, slot_birth, is_empty, copied, too_many, among, object, with_object, slot, has_slot, from_of, offspring, cuttings, cleared, refilled, made}
+use Rattle.rights.specs.World.{Went, on, wait, refuse, cutting, is_pool, revoking, set_state, seen, may_store, does, went_on, acts, ticked, comes_in, event, run}
+use Rattle.rights.specs.Effects.{table_shape, page_shape, shape}
+use Rattle.rights.specs.Promise.{Kinds, Paged, cost_of, standing, UsedCoversIn, UsedCovers}
+use Rattle.laws.proofs.Tests.{clash, pick_both, pick_know, same_or_not, both_ways, or_right, both_hold, set_apart, set_by, at_end, push_by}
 use Rattle.laws.proofs.Forms.{by_pool, by_line, no_cut, no_copy, no_revoke, cutting_is, comes_in_is}
 use Rattle.laws.proofs.Steps.{to}
 use Rattle.laws.proofs.Places.{kinds_event}
-use Rattle.laws.proofs.Sweeping.{AfterSweep, lost, untouched, slots_go, waits_go, goes_calm, goes_waiting, goes_woken, swept_at}
+use Rattle.laws.proofs.Sweeping.{swept_at}
 use Rattle.laws.proofs.Moves.{cut_among}
 use Rattle.laws.proofs.Cuts.{after_cut, cut_places, at_pool}
+use Rattle.laws.proofs.Shapes.{swept_paper, stored_same, paged_event}
 use Rattle.laws.proofs.Quiet.{Paper, written, used_in, paper, paper_slots, plain, left, quiet_set, quiet_state, quiet_slot, quiet_call}
 
 -- what of it is cut from f, and how much is used
 unfoldable part : ℕ → Paper → ℕ
-part f (written g c u) = pick (eqb g f) c 0
+part f (written g c u s) = pick (eqb g f) c 0
 
 unfoldable used : Paper → ℕ
-used (written g c u) = u
+used (written g c u s) = u
 
 unfoldable from_note : Paper → ℕ
-from_note (written g c u) = g
+from_note (written g c u s) = g
 
 pick_zero : (c : Bool) → ◌≡◌ {A = ℕ} (pick c 0 0) 0
 pick_zero true = refl
@@ -42,19 +44,19 @@ module _ (Cpu : Type 0) (fresh : ℕ → Cpu) (act : Cpu → (ℕ → ℕ) → A
 
   module _ (z : Sizes) where
     abbrev note : Object Cpu → Paper
-    note = paper Cpu fresh act z
+    note = paper Cpu fresh act
 
     stands : ℕ → List (Object Cpu) → ℕ
-    stands f xs = standing Cpu fresh act z f xs
+    stands f xs = standing Cpu fresh act f xs
 
     part_gone : (f : ℕ) → part f (note gone) ≡ 0
-    unfolding part paper from_of cost_of used_in
+    unfolding part paper from_of cost_of used_in shape
     part_gone f = pick_zero (eqb 0 f)
 
     -- what is cut from another pool is no part
     no_part : (f : ℕ) (x : Object Cpu) → (from_of Cpu fresh act x ≡ f → ⊥) → part f (note x) ≡ 0
     unfolding part paper
-    no_part f x h = ap (λ (c : Bool). pick c (cost_of Cpu fresh act z x) 0) (ne_eqb (from_of Cpu fresh act x) f h)
+    no_part f x h = ap (λ (c : Bool). pick c (cost_of Cpu fresh act x) 0) (ne_eqb (from_of Cpu fresh act x) f h)
 
     -- place by place no more is no more together
     stands_less : (f : ℕ) (xs ys : List (Object Cpu)) → ((u : ℕ) → part f (note (get_or xs u gone)) ≤ part f (note (get_or ys u gone))) → stands f xs ≤ stands f ys
@@ -83,12 +85,12 @@ module _ (Cpu : Type 0) (fresh : ℕ → Cpu) (act : Cpu → (ℕ → ℕ) → A
         let b = stands_less (suc o) v.objects w.objects (λ t. let q = ap (part (suc o)) (h t) in omega arith) in omega arith
 
     -- a cut
-    made_note : (f : ℕ) (k : Kind) → note (made Cpu fresh act z f k) ≡ written f (cost z k) (used (note (made Cpu fresh act z f k)))
-    unfolding paper from_of cost_of used_in made cost used
+    made_note : (f : ℕ) (k : Kind) → note (made Cpu fresh act z f k) ≡ written f (cost z k) (used (note (made Cpu fresh act z f k))) (shape Cpu fresh act (made Cpu fresh act z f k))
+    unfolding paper from_of cost_of used_in shape made cost used
     made_note f (a_pool n) = refl
-    made_note f (a_table n) = ap (λ (i : ℕ). written f (i * 64) 0) (length-replicate n empty)
+    made_note f (a_table n) = ap (λ (i : ℕ). written f (i * 64) 0 (table_shape f (length (replicate n empty)))) (length-replicate n empty)
     made_note f a_port = refl
-    made_note f a_page = refl
+    made_note f a_page = ap (λ (i : ℕ). written f i 0 (page_shape f (length (replicate {A = ℕ} z.bytes 0)))) (length-replicate z.bytes 0)
 
     made_used : (f : ℕ) (k : Kind) (u : ℕ) → used (note (made Cpu fresh act z f k)) ≡ suc u → u ≡ 0
     unfolding paper used_in made used
@@ -109,7 +111,7 @@ module _ (Cpu : Type 0) (fresh : ℕ → Cpu) (act : Cpu → (ℕ → ℕ) → A
       m = made Cpu fresh act z (suc o) kd
 
       pool_part : (g : ℕ) → part g (note (pool f n c)) ≡ part g (note (obj w o))
-      unfolding part paper from_of cost_of used_in
+      unfolding part paper from_of cost_of used_in shape
       pool_part g = sym (ap (λ (y : Object Cpu). part g (note y)) is)
 
       made_part : part (suc o) (note m) ≡ cost z kd
@@ -130,7 +132,7 @@ module _ (Cpu : Type 0) (fresh : ℕ → Cpu) (act : Cpu → (ℕ → ℕ) → A
           cut_places Cpu fresh act z w p o d x kd f n u c has is (λ t y. part g (note y) ≤ part g (note (get_or (w.objects ++ m ∷ []) t gone))) t (grows g t)
           (λ q. let a = pool_part g in let b = grows g t in subst (λ (i : ℕ). part g (note (pool f n c)) ≤ part g (note (get_or (w.objects ++ m ∷ []) i gone))) (sym q) (let h = grows g o in omega arith))
           (λ q. subst (λ (i : ℕ). part g (note m) ≤ part g (note (get_or (w.objects ++ m ∷ []) i gone))) (sym q) (let h = ap (λ (y : Object Cpu). part g (note y)) (at_end w.objects m gone) in omega arith))
-          (λ y. let a = ap (part g) (paper_slots Cpu fresh act z (get_or w.objects t gone) d y) in let h = grows g t in omega arith)
+          (λ y _. let a = ap (part g) (paper_slots Cpu fresh act z (get_or w.objects t gone) d y) in let h = grows g t in omega arith)
 
       together : (g : ℕ) → stands g V.objects ≤ stands g w.objects + part g (note m)
       unfolding object
@@ -152,7 +154,7 @@ module _ (Cpu : Type 0) (fresh : ℕ → Cpu) (act : Cpu → (ℕ → ℕ) → A
           let old : (used (note (obj w q)) ≡ suc v → stands (suc q) V.objects ≤ v) = (λ e. let g = cw q v e in omega arith) in
           cut_places Cpu fresh act z w p o d x kd f n u c has is (λ t y. used (note y) ≡ suc v → stands (suc q) V.objects ≤ v) q old (λ e _. absurd (other e))
           (λ e h. let g = made_used (suc o) kd v h in let l = newest q e in omega arith)
-          (λ y e. old (ap used (sym (paper_slots Cpu fresh act z (obj w q) d y)) ∙ e))
+          (λ y _ e. old (ap used (sym (paper_slots Cpu fresh act z (obj w q) d y)) ∙ e))
         where
           -- nothing was cut from a pool that wasn't there yet
           newest : (q : ℕ) → q ≡ length w.objects → stands (suc q) w.objects ≤ 0
@@ -163,28 +165,13 @@ module _ (Cpu : Type 0) (fresh : ℕ → Cpu) (act : Cpu → (ℕ → ℕ) → A
       covers_cut q v e = same_or_not q o (λ h. subst (λ (i : ℕ). used (note (obj V i)) ≡ suc v → stands (suc i) V.objects ≤ v) (sym h) (at_it v) e) (λ h. at_other q v h e)
 
     -- a sweep: an object is gone, or costs the same
-    emptied_long : (ids os : List ℕ) (ss : List Slot) → length (emptied Cpu fresh act ids os ss) ≡ length ss
-    unfolding emptied
-    emptied_long ids os [] = refl
-    emptied_long ids os (x ∷ ss) = ap suc (emptied_long ids os ss)
-
-    swept_note : {ids os : List ℕ} {u : ℕ} {x y : Object Cpu} → AfterSweep Cpu fresh act ids os u x y → (y ≡ gone) ⊎ ((among u os ≡ false) × (note y ≡ note x))
-    unfolding paper from_of cost_of used_in
-    swept_note (lost h) = inl refl
-    swept_note (untouched h a b c) = inr (h, refl)
-    swept_note {ids} {os} (slots_go {f} ss h) = inr (h, ap (λ (n : ℕ). written f (n * 64) 0) (emptied_long ids os ss))
-    swept_note (waits_go ws h) = inr (h, refl)
-    swept_note (goes_calm t ps h n) = inr (h, refl)
-    swept_note (goes_waiting t ps h n) = inr (h, refl)
-    swept_note (goes_woken o then t ps h n) = inr (h, refl)
-
     module _ (w : World Cpu) (cw : Covers w) (ids os : List ℕ) where
       C : World Cpu
       C = cleared Cpu fresh act w ids os
 
       swept_part : (f u : ℕ) → part f (note (obj C u)) ≤ part f (note (obj w u))
       unfolding C
-      swept_part f u = go (swept_note (swept_at Cpu fresh act w ids os u))
+      swept_part f u = go (swept_paper Cpu fresh act (swept_at Cpu fresh act w ids os u))
         where
           go : (obj C u ≡ gone) ⊎ ((among u os ≡ false) × (note (obj C u) ≡ note (obj w u))) → part f (note (obj C u)) ≤ part f (note (obj w u))
           go (inl h) = let a = ap (λ (y : Object Cpu). part f (note y)) h in let b = part_gone f in omega arith
@@ -192,7 +179,7 @@ module _ (Cpu : Type 0) (fresh : ℕ → Cpu) (act : Cpu → (ℕ → ℕ) → A
 
       covers_sweep : Covers C
       unfolding C Covers used paper used_in object
-      covers_sweep q v e = go (swept_note (swept_at Cpu fresh act w ids os q))
+      covers_sweep q v e = go (swept_paper Cpu fresh act (swept_at Cpu fresh act w ids os q))
         where
           less : stands (suc q) C.objects ≤ stands (suc q) w.objects
           less = stands_less (suc q) C.objects w.objects (swept_part (suc q))
@@ -203,7 +190,7 @@ module _ (Cpu : Type 0) (fresh : ℕ → Cpu) (act : Cpu → (ℕ → ℕ) → A
 
     -- a pool of which nothing is used, when nothing stands cut from it
     refilled_part : (f : ℕ) (x : Object Cpu) → part f (note (refilled Cpu fresh act x)) ≡ part f (note x)
-    unfolding part paper from_of cost_of used_in refilled
+    unfolding part paper from_of cost_of used_in shape refilled
     refilled_part f gone = refl
     refilled_part f (pool g n u) = refl
     refilled_part f (table g ss) = refl
@@ -233,7 +220,7 @@ module _ (Cpu : Type 0) (fresh : ℕ → Cpu) (act : Cpu → (ℕ → ℕ) → A
 
     none_left : (w : World Cpu) (ids : List ℕ) (o : ℕ) → stands (suc o) (cleared Cpu fresh act w ids (cuttings Cpu fresh act w (length w.objects) (o ∷ []))).objects ≤ 0
     unfolding object from_of from_note paper
-    none_left w ids o = stands_none (suc o) _ (λ u h. go u h (swept_note (swept_at Cpu fresh act w ids (cuttings Cpu fresh act w (length w.objects) (o ∷ [])) u)))
+    none_left w ids o = stands_none (suc o) _ (λ u h. go u h (swept_paper Cpu fresh act (swept_at Cpu fresh act w ids (cuttings Cpu fresh act w (length w.objects) (o ∷ [])) u)))
       where
         os : List ℕ
         os = cuttings Cpu fresh act w (length w.objects) (o ∷ [])
@@ -249,7 +236,7 @@ module _ (Cpu : Type 0) (fresh : ℕ → Cpu) (act : Cpu → (ℕ → ℕ) → A
         go u h (inr g) = both_ways (cut_among Cpu fresh act w o u (sym (ap from_note g.1) ∙ h)) g.0
 
     -- what every call leaves
-    module _ (w : World Cpu) (k : Kinds Cpu fresh act w) (cw : Covers w) (p : ℕ) where
+    module _ (w : World Cpu) (k : Kinds Cpu fresh act w) (pw : Paged Cpu fresh act z w) (cw : Covers w) (p : ℕ) where
       data Covered : Went Cpu fresh act → Type 0 where
         covered_on : {v : World Cpu} {ws : List ℕ} → Covers v → Covered (on v ws)
         covered_wait : {v : World Cpu} {o : ℕ} → Covers v → Covered (wait v o)
@@ -314,23 +301,10 @@ module _ (Cpu : Type 0) (fresh : ℕ → Cpu) (act : Cpu → (ℕ → ℕ) → A
       c_went then r (covered_on {v} {ws} c) = set_covers v ready (then ws) c
       c_went then r (covered_wait {v} {o} c) = set_covers v (waits o then) (fresh 0) c
 
-      -- a store: where a page is, another page
-      c_store : (f a : ℕ) (c : Cpu) (ps : List ℕ) (rs : List Bool) (i : ℕ) (bs : List ℕ) → obj w p ≡ thread f ready c a ps rs → may_store Cpu fresh act z ps rs i bs ≡ true → Covers (stores Cpu fresh act z w ps rs i bs)
-      unfolding stores may_store paper from_of from_page cost_of used_in
-      c_store f a c ps rs i bs e g = go (get_or ps (i / z.bytes) 0) refl (and_left _ _ g)
-        where
-          go : (u : ℕ) → get_or ps (i / z.bytes) 0 ≡ u → not (eqb u 0) ≡ true →
-              Covers (with_object Cpu fresh act w (u - 1) (page (from_page Cpu fresh act (obj w (u - 1))) (over (bytes_of Cpu fresh act (obj w (u - 1))) (i % z.bytes) bs)))
-          go zero q h = no_yes h
-          go (suc u) q h =
-              subst (λ (j : ℕ). Covers (with_object Cpu fresh act w j (page (from_page Cpu fresh act (obj w j)) (over (bytes_of Cpu fresh act (obj w j)) (i % z.bytes) bs)))) (sym (less_one u))
-              (let y = k.its_pages p f a (i / z.bytes) u ready c ps rs e q in
-              covers_same w _ (quiet_set Cpu fresh act z w u (obj w u) _ refl (ap (λ (x : Object Cpu). note (page (from_page Cpu fresh act x) (over (bytes_of Cpu fresh act x) (i % z.bytes) bs))) y.2 ∙ ap note (sym y.2))).same_papers cw)
-
       c_acts : (f a : ℕ) (c : Cpu) (ps : List ℕ) (rs : List Bool) (x : Act Cpu) → obj w p ≡ thread f ready c a ps rs → Covers (acts Cpu fresh act z w p ps rs x)
       unfolding acts
       c_acts f a c ps rs (quiet d) e = set_covers w ready d cw
-      c_acts f a c ps rs (store i bs d) e = pick_know Covers (may_store Cpu fresh act z ps rs i bs) (λ g. set_covers _ ready d (c_store f a c ps rs i bs e g)) (λ _. set_covers w stopped (fresh 0) cw)
+      c_acts f a c ps rs (store i bs d) e = pick_know Covers (may_store Cpu fresh act z ps rs i bs) (λ g. set_covers _ ready d (covers_same w _ (stored_same Cpu fresh act z w k pw p f a c ps rs i bs e g) cw)) (λ _. set_covers w stopped (fresh 0) cw)
       c_acts f a c ps rs (call x then) e = c_went then (does Cpu fresh act z w p x) (c_call x)
       c_acts f a c ps rs wrong e = set_covers w stopped (fresh 0) cw
 
@@ -347,36 +321,36 @@ module _ (Cpu : Type 0) (fresh : ℕ → Cpu) (act : Cpu → (ℕ → ℕ) → A
       c_ticked (line xs ys) e = cw
 
       c_comes : (b : ℕ) → Covers (comes_in Cpu fresh act z w p b (obj w p))
-      unfolding comes_in paper from_of cost_of used_in
+      unfolding comes_in paper from_of cost_of used_in shape
       c_comes b =
           rw (comes_in_is Cpu fresh act z w p b (obj w p)) (by_line Covers (obj w p) cw (λ xs ys e.
           pick_both Covers (ltb (length ys) z.heard) (covers_same w _ (quiet_set Cpu fresh act z w p (line xs ys) (line xs (ys ++ b ∷ [])) e refl).same_papers cw) cw))
 
-    covers_event : (w : World Cpu) (e : Event) → Kinds Cpu fresh act w → Covers w → Covers (event Cpu fresh act z w e)
+    covers_event : (w : World Cpu) (e : Event) → Kinds Cpu fresh act w → Paged Cpu fresh act z w → Covers w → Covers (event Cpu fresh act z w e)
     unfolding event
-    covers_event w (tick p) k c = c_ticked w k c p (obj w p) refl
-    covers_event w (byte o b) k c = c_comes w k c o b
+    covers_event w (tick p) k g c = c_ticked w k g c p (obj w p) refl
+    covers_event w (byte o b) k g c = c_comes w k g c o b
 
-    covers_run : (w : World Cpu) (es : List Event) → Kinds Cpu fresh act w → Covers w → Covers (run Cpu fresh act z w es)
+    covers_run : (w : World Cpu) (es : List Event) → Kinds Cpu fresh act w → Paged Cpu fresh act z w → Covers w → Covers (run Cpu fresh act z w es)
     unfolding run
-    covers_run w [] k c = c
-    covers_run w (e ∷ es) k c = covers_run (event Cpu fresh act z w e) es (kinds_event Cpu fresh act z w e k) (covers_event w e k c)
+    covers_run w [] k g c = c
+    covers_run w (e ∷ es) k g c = covers_run (event Cpu fresh act z w e) es (kinds_event Cpu fresh act z w e k) (paged_event Cpu fresh act z w e k g) (covers_event w e k g c)
 
     covers_first : (v : World Cpu) → ((t : ℕ) → from_of Cpu fresh act (obj v t) ≡ 0) → Covers v
     unfolding Covers object
     covers_first v h o u e = let a = stands_none (suc o) v.objects (λ t q. let b = h t in omega arith) in omega arith
 
-    covered : (v : World Cpu) (es : List Event) (o f n u : ℕ) → Kinds Cpu fresh act v → ((t : ℕ) → from_of Cpu fresh act (obj v t) ≡ 0) → obj (run Cpu fresh act z v es) o ≡ pool f n u → stands (suc o) (run Cpu fresh act z v es).objects ≤ u
+    covered : (v : World Cpu) (es : List Event) (o f n u : ℕ) → Kinds Cpu fresh act v → Paged Cpu fresh act z v → ((t : ℕ) → from_of Cpu fresh act (obj v t) ≡ 0) → obj (run Cpu fresh act z v es) o ≡ pool f n u → stands (suc o) (run Cpu fresh act z v es).objects ≤ u
     unfolding Covers used paper used_in
-    covered v es o f n u k h e = covers_run v es k (covers_first v h) o u (ap (λ (x : Object Cpu). used (note x)) e)
+    covered v es o f n u k g h e = covers_run v es k g (covers_first v h) o u (ap (λ (x : Object Cpu). used (note x)) e)
 
-    cost_made : (f : ℕ) (k : Kind) → cost_of Cpu fresh act z (made Cpu fresh act z f k) ≡ cost z k
+    cost_made : (f : ℕ) (k : Kind) → cost_of Cpu fresh act (made Cpu fresh act z f k) ≡ cost z k
     unfolding cost_of made cost
     cost_made f (a_pool n) = refl
     cost_made f (a_table n) = ap (λ (i : ℕ). i * 64) (length-replicate n empty)
     cost_made f a_port = refl
-    cost_made f a_page = refl
+    cost_made f a_page = length-replicate z.bytes 0
 
   pub used_covers : UsedCovers Cpu fresh act
   unfolding UsedCovers UsedCoversIn stands
-  used_covers = ((λ z v es o f n u one k h e. covered z v es o f n u k h e), cost_made)
+  used_covers = ((λ z v es o f n u one k g h e. covered z v es o f n u k g h e), cost_made)

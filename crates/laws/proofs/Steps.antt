@@ -3,7 +3,7 @@ use mathlib.Core.Path.{◌≡◌}
 use mathlib.Core.Bool.{Bool, true, false, not}
 use mathlib.Core.List.{List, [], ◌∷◌, ◌++◌}
 use mathlib.Core.Logic.{◌⊎◌}
-use Prim.Native.Nat.{ℕ, suc, ◌-◌, ◌≤◌}
+use Prim.Native.Nat.{ℕ, suc, ◌-◌, ◌≤◌, ◌<◌}
 use lib.ListN.{length, get_or}
 use Rattle.rights.specs.World.{Rights, Slot, empty, Kind, Act, Wait, sender, receiver, State, stopped, ready, waits, Object, gone, pool, table, port}
 use Rattle.rights.specs.World.{page, thread, line, Sizes, World, slot_object, slot_rights, slot_birth, slot_mother, is_empty, among, object}
@@ -69,7 +69,7 @@ module _ (Cpu : Type 0) (fresh : ℕ → Cpu) (act : Cpu → (ℕ → ℕ) → A
     ran : {f a : ℕ} {s q : State Cpu} {c d : Cpu} {ps : List ℕ} {rs : List Bool} → Turn w new u (thread f s c a ps rs) (thread f q d a ps rs)
     rowed : {f : ℕ} {ws vs : List Wait} → Turn w new u (port f ws) (port f vs)
     drawn : {f n a b : ℕ} → b ≤ n → Turn w new u (pool f n a) (pool f n b)
-    slotted : {f : ℕ} {ss qs : List Slot} → ((i : ℕ) (y : Slot) → get_or qs i empty ≡ y → is_empty y ≡ false → In w y ⊎ (y ≡ new)) → Turn w new u (table f ss) (table f qs)
+    slotted : {f : ℕ} {ss qs : List Slot} → length qs ≡ length ss → ((i : ℕ) (y : Slot) → get_or qs i empty ≡ y → is_empty y ≡ false → In w y ⊎ (y ≡ new)) → Turn w new u (table f ss) (table f qs)
     cut_new : (o : ℕ) (z : Sizes) (k : Kind) → length w.objects ≤ u → is_pool Cpu fresh act (obj w o) ≡ true → Turn w new u gone (made Cpu fresh act z (suc o) k)
 
   -- a new capability: born now, made from one that is there; to the same object with no more rights, or to an object that is there
@@ -79,7 +79,7 @@ module _ (Cpu : Type 0) (fresh : ℕ → Cpu) (act : Cpu → (ℕ → ℕ) → A
     pub from_it : slot_mother x ≡ slot_birth mother
     pub now : slot_birth x ≡ suc w.births
     pub counted : suc w.births ≤ v.births
-    pub leads : ((slot_object x ≡ slot_object mother) × NoWider (slot_rights x) (slot_rights mother)) ⊎ ((obj v (to x) ≡ gone → ⊥) × (slot_object x ≡ slot_object mother → ⊥))
+    pub leads : ((slot_object x ≡ slot_object mother) × NoWider (slot_rights x) (slot_rights mother)) ⊎ ((obj v (to x) ≡ gone → ⊥) × (slot_object mother < slot_object x))
 
   -- a step without a revoke: what each object turned into, and what was born
   pub record Change (w v : World Cpu) : Type 0 where
@@ -88,7 +88,7 @@ module _ (Cpu : Type 0) (fresh : ℕ → Cpu) (act : Cpu → (ℕ → ℕ) → A
     pub birth : is_empty new ≡ false → Born w v new
     pub more : w.births ≤ v.births
     pub grows : length w.objects ≤ length v.objects
-    pub lines : (v.lineage ≡ w.lineage) ⊎ ((e : Slot) × (v.lineage ≡ e ∷ w.lineage) × (slot_birth e ≤ v.births))
+    pub lines : (v.lineage ≡ w.lineage) ⊎ ((v.lineage ≡ new ∷ w.lineage) × (is_empty new ≡ false))
 
   -- what was cut from one of a list is in the list too
   unfoldable pub Closed : World Cpu → List ℕ → Type 0

@@ -32,7 +32,7 @@ module _ (Cpu : Type 0) (fresh : ℕ → Cpu) (act : Cpu → (ℕ → ℕ) → A
   goes_among w u t (cut_from e) = cut_among Cpu fresh act w u t e
   goes_among w u t (cut_on {i} g e) = closed_cuttings Cpu fresh act w u t i e (goes_among w u i g)
 
-  among_goes : (w : World Cpu) (u n t : ℕ) → among t (cuttings Cpu fresh act w n (u ∷ [])) ≡ true → GoesWith Cpu fresh act w u t
+  pub among_goes : (w : World Cpu) (u n t : ℕ) → among t (cuttings Cpu fresh act w n (u ∷ [])) ≡ true → GoesWith Cpu fresh act w u t
   unfolding cuttings among fr object
   among_goes w u zero t h = no_yes h
   among_goes w u (suc n) t h = go (from_of Cpu fresh act (get_or w.objects t gone)) refl (λ i. among_goes w u n i) (sym (dual Cpu fresh act w n (u ∷ []) t) ∙ h)
@@ -68,8 +68,19 @@ module _ (Cpu : Type 0) (fresh : ℕ → Cpu) (act : Cpu → (ℕ → ℕ) → A
       go false false false h k = inl refl
   kept_slot ids os (x ∷ ss) (suc i) y e = kept_slot ids os ss i y e
 
+  -- a pool of which nothing is used: slots stay
+  pub slots_refilled : (x : Object Cpu) → slots_of Cpu fresh act (refilled Cpu fresh act x) ≡ slots_of Cpu fresh act x
+  unfolding slots_of refilled
+  slots_refilled gone = refl
+  slots_refilled (pool f n c) = refl
+  slots_refilled (table f ss) = refl
+  slots_refilled (port f ws) = refl
+  slots_refilled (page f bs) = refl
+  slots_refilled (thread f s c t ps rs) = refl
+  slots_refilled (line xs ys) = refl
+
   module _ (z : Sizes) (w : World Cpu) (u j : ℕ) where
-    ids : List ℕ
+    unfoldable pub ids : List ℕ
     ids = offspring Cpu fresh act w w.births (j ∷ [])
 
     -- a slot after a sweep
@@ -93,17 +104,7 @@ module _ (Cpu : Type 0) (fresh : ℕ → Cpu) (act : Cpu → (ℕ → ℕ) → A
         go (goes_waiting a ps h b) l f = clash (cc)
         go (goes_woken a then b ps h d) l f = clash (cc)
 
-    -- a pool of which nothing is used: slots stay, and nothing is gone by it
-    slots_refilled : (x : Object Cpu) → slots_of Cpu fresh act (refilled Cpu fresh act x) ≡ slots_of Cpu fresh act x
-    unfolding slots_of refilled
-    slots_refilled gone = refl
-    slots_refilled (pool f n c) = refl
-    slots_refilled (table f ss) = refl
-    slots_refilled (port f ws) = refl
-    slots_refilled (page f bs) = refl
-    slots_refilled (thread f s c t ps rs) = refl
-    slots_refilled (line xs ys) = refl
-
+    -- a pool of which nothing is used: nothing is gone by it
     refilled_gone : (x : Object Cpu) → refilled Cpu fresh act x ≡ gone → x ≡ gone
     unfolding refilled
     refilled_gone gone e = refl
@@ -128,10 +129,10 @@ module _ (Cpu : Type 0) (fresh : ℕ → Cpu) (act : Cpu → (ℕ → ℕ) → A
         (λ e g. ap (λ (l : ℕ). get_or v.objects l gone) (sym e) ∙ refilled_gone (get_or v.objects u gone) g) (λ g. g)
 
     -- what is said of the world that a revoke leaves, with os the objects that go
-    record Leaves (os : List ℕ) (v : World Cpu) : Type 0 where
-      all_go : (t : ℕ) → among t os ≡ true → obj v t ≡ gone
-      no_more_go : (t : ℕ) → (obj w t ≡ gone → ⊥) → obj v t ≡ gone → among t os ≡ true
-      slots : (o i t c k n : ℕ) (q : Rights) → at w o i ≡ cap t q c k n → (at v o i ≡ cap t q c k n) ⊎ ((among k ids ≡ true) ⊎ ((among t os ≡ true) ⊎ (among o os ≡ true)))
+    pub record Leaves (os : List ℕ) (v : World Cpu) : Type 0 where
+      pub all_go : (t : ℕ) → among t os ≡ true → obj v t ≡ gone
+      pub no_more_go : (t : ℕ) → (obj w t ≡ gone → ⊥) → obj v t ≡ gone → among t os ≡ true
+      pub slots : (o i t c k n : ℕ) (q : Rights) → at w o i ≡ cap t q c k n → (at v o i ≡ cap t q c k n) ⊎ ((among k ids ≡ true) ⊎ ((among t os ≡ true) ⊎ (among o os ≡ true)))
 
     leaves_swept : (os : List ℕ) → Leaves os (cleared Cpu fresh act w ids os)
     unfolding AllGone
@@ -152,10 +153,10 @@ module _ (Cpu : Type 0) (fresh : ℕ → Cpu) (act : Cpu → (ℕ → ℕ) → A
         }
 
     -- what goes: of a pool what was cut from it, of anything else nothing
-    taken : Bool → List ℕ
+    unfoldable pub taken : Bool → List ℕ
     taken c = pick c (cuttings Cpu fresh act w (length w.objects) (u ∷ [])) []
 
-    leaves : (p s b m : ℕ) (r : Rights) (x : World Cpu) → slot Cpu fresh act w p s ≡ cap u r b j m → does Cpu fresh act z w p (revoke s) ≡ on x (0 ∷ []) → Leaves (taken (is_pool Cpu fresh act (obj w u))) x
+    pub leaves : (p s b m : ℕ) (r : Rights) (x : World Cpu) → slot Cpu fresh act w p s ≡ cap u r b j m → does Cpu fresh act z w p (revoke s) ≡ on x (0 ∷ []) → Leaves (taken (is_pool Cpu fresh act (obj w u))) x
     unfolding does revoking refuse taken slot_object slot_birth is_empty slot_rights ids
     leaves p s b m r x e d = go (is_pool Cpu fresh act (obj w u)) (is_pool Cpu fresh act (obj w u) && not r.writes) (sym as_is ∙ d)
       where

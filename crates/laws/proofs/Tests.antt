@@ -39,9 +39,13 @@ pub not_true : (c : Bool) → (c ≡ true → ⊥) → c ≡ false
 not_true true h = absurd (h refl)
 not_true false h = refl
 
-not_is : (c : Bool) → not c ≡ true → c ≡ false
+pub not_is : (c : Bool) → not c ≡ true → c ≡ false
 not_is true g = no_yes g
 not_is false g = refl
+
+pub is_so : (c : Bool) → not c ≡ false → c ≡ true
+is_so true g = refl
+is_so false g = yes_no g
 
 -- one of two, whichever the test says
 pub pick_both {ℓ} : {A : Type 0} (P : A → Type ℓ) (c : Bool) {a b : A} → P a → P b → P (pick c a b)

@@ -1,15 +1,15 @@
 -- The second sentence: who isn't reached isn't seen.
-use mathlib.Core.Path.{◌≡◌, refl, sym, ap, subst, ◌∙◌}
+use mathlib.Core.Path.{◌≡◌, refl, sym, ap, ◌∙◌}
 use mathlib.Core.Bool.{Bool, true, false, ◌||◌}
 use mathlib.Core.List.{List, [], ◌∷◌}
 use Prim.Native.Nat.{ℕ, ◌+◌, ◌≤◌, ◌<◌}
 use native.Mathlib.Omega.{arith}
 use lib.Dec.{ltb}
 use borrow.Author.Tests.{ltb-true, ltb-false}
-use lib.ListN.{length, get_or}
-use Rattle.rights.specs.World.{pick, empty, Act, Object, gone, Sizes, World, Event, tick, byte, among, object, slots_of, cuttings, event, run}
+use lib.ListN.{length}
+use Rattle.rights.specs.World.{pick, Act, Object, Sizes, World, Event, tick, byte, among, object, cuttings, event, run}
 use Rattle.rights.specs.World.{shown_by}
-use Rattle.rights.specs.Promise.{Parted, mine, only, Unreached}
+use Rattle.rights.specs.Promise.{SameButBirths, same_object, UnreachedIn, Parted, mine, only, Unreached}
 use Rattle.laws.proofs.Tests.{yes_no}
 use Rattle.laws.proofs.CutFrom.{sat}
 use Rattle.laws.proofs.Steps.{one}
@@ -17,7 +17,7 @@ use Rattle.laws.proofs.Pools.{DullFrom, dull_event, dull_first, idle_t, idle_b}
 use Rattle.laws.proofs.Tied.{Ties, Agree, ObjT, gone_t, pool_t, table_t, port_t, page_t, thread_t, line_t}
 use Rattle.laws.proofs.Kindred.{a_cuttings}
 use Rattle.laws.proofs.Frames.{Parts, Ours, our_tick, our_byte, Theirs, their_tick, their_byte}
-use Rattle.laws.proofs.Beginning.{Own, ties, alone, masked_same, parts_first}
+use Rattle.laws.proofs.Beginning.{ties, alone, parts_first}
 
 module _ (Cpu : Type 0) (fresh : ℕ → Cpu) (act : Cpu → (ℕ → ℕ) → Act Cpu) where
   o_shown : {d : Bool} {t : Ties} {x y : Object Cpu} → ObjT Cpu d t x y → shown_by Cpu fresh act x ≡ shown_by Cpu fresh act y
@@ -94,14 +94,14 @@ module _ (Cpu : Type 0) (fresh : ℕ → Cpu) (act : Cpu → (ℕ → ℕ) → A
         go true g rec = rec (event Cpu fresh act z a e) (our_event z e r g)
         go false g rec = rec a (their_event z e r g)
 
-  whole_first : (A : ℕ → Bool) (l : ℕ) (outside : (u : ℕ) → l ≤ u → A u ≡ false) (v : World Cpu) (b : ℕ) → l ≡ length v.objects → Parted Cpu fresh act A v → ((j : ℕ) → Own Cpu fresh act A true v j → j ≤ b) →
-      Whole A l outside v (alone Cpu fresh act A v b)
+  whole_first : (A : ℕ → Bool) (l : ℕ) (outside : (u : ℕ) → l ≤ u → A u ≡ false) (v w : World Cpu) → l ≡ length v.objects → length v.objects ≡ length w.objects → Parted Cpu fresh act A v → Parted Cpu fresh act A w →
+      ((u : ℕ) → u < length v.objects → A u ≡ true → SameButBirths Cpu fresh act (object Cpu fresh act v u) (object Cpu fresh act w u)) → Whole A l outside v (alone Cpu fresh act A w w.births)
   unfolding ties
-  whole_first A l outside v b e p hb =
+  whole_first A l outside v w e long p q same =
       record {
-        t = ties Cpu fresh act A true v;
-        q = ties Cpu fresh act A false v;
-        parts = parts_first Cpu fresh act A v p (λ u h. outside u (omega arith)) b hb;
+        t = ties Cpu fresh act A true v w;
+        q = ties Cpu fresh act A false v v;
+        parts = parts_first Cpu fresh act A v w p q long (λ u h. outside u (omega arith)) same;
         home = λ u h a. (refl, a, omega arith);
         away = λ u h a. (refl, a, omega arith);
         dulls = dull_first Cpu fresh act l v (omega arith);
@@ -111,28 +111,10 @@ module _ (Cpu : Type 0) (fresh : ℕ → Cpu) (act : Cpu → (ℕ → ℕ) → A
   shown_same A l outside v a r o h e = o_shown (r.parts.mine.same (r.home o h e))
 
   pub unreached : Unreached Cpu fresh act
-  unfolding Unreached Own alone object
+  unfolding Unreached UnreachedIn
   unreached z A v w es fs o one pv pw same len onlys ao ol outside =
-      shown_same A (length v.objects) outside (run Cpu fresh act z v es) (run Cpu fresh act z (alone Cpu fresh act A v v.births) (only Cpu fresh act A es)) (whole_run A (length v.objects) outside z v (alone Cpu fresh act A v v.births) es (whole_first A (length v.objects) outside v v.births refl pv in_v)) o ol ao ∙
-      ap (λ (i : World Cpu). shown_by Cpu fresh act (object Cpu fresh act (run Cpu fresh act z i (only Cpu fresh act A es)) o)) alike ∙
-      ap (λ (xs : List Event). shown_by Cpu fresh act (object Cpu fresh act (run Cpu fresh act z (alone Cpu fresh act A w v.births) xs) o)) onlys ∙
-      sym (shown_same A (length v.objects) outside (run Cpu fresh act z w fs) (run Cpu fresh act z (alone Cpu fresh act A w v.births) (only Cpu fresh act A fs)) (whole_run A (length v.objects) outside z w (alone Cpu fresh act A w v.births) fs (whole_first A (length v.objects) outside w v.births len pw in_w)) o ol ao)
-    where
-      in_v : (j : ℕ) → Own Cpu fresh act A true v j → j ≤ v.births
-      in_v j (x, i, u, b, m, r, e, g) = (pv.born x i u b j m r g).1
-
-      inside : (u : ℕ) → A u ≡ true → u < length v.objects
-      inside u e = at (ltb u (length v.objects)) refl
-        where
-          at : (c : Bool) → ltb u (length v.objects) ≡ c → u < length v.objects
-          at true g = ltb-true u (length v.objects) g
-          at false g = yes_no (sym e ∙ outside u (ltb-false u (length v.objects) g))
-
-      in_w : (j : ℕ) → Own Cpu fresh act A true w j → j ≤ v.births
-      in_w j (x, i, u, b, m, r, e, g) = (pv.born x i u b j m r (ap (λ (y : Object Cpu). get_or (slots_of Cpu fresh act y) i empty) (same x (inside x e) e) ∙ g)).1
-
-      alike : alone Cpu fresh act A v v.births ≡ alone Cpu fresh act A w v.births
-      alike = λ i. record { objects = masked_same Cpu fresh act A 0 v.objects w.objects len at i; births = v.births; lineage = [] }
-        where
-          at : (k m : ℕ) → m ≡ 0 + k → k < length v.objects → A m ≡ true → get_or v.objects k gone ≡ get_or w.objects k gone
-          at k m e h a = let q : m ≡ k = omega arith in same k h (subst (λ (n : ℕ). A n ≡ true) q a)
+      let l = length v.objects in
+      let a = alone Cpu fresh act A w w.births in
+      shown_same A l outside (run Cpu fresh act z v es) (run Cpu fresh act z a (only Cpu fresh act A es)) (whole_run A l outside z v a es (whole_first A l outside v w refl len pv pw same)) o ol ao ∙
+      ap (λ (xs : List Event). shown_by Cpu fresh act (object Cpu fresh act (run Cpu fresh act z a xs) o)) onlys ∙
+      sym (shown_same A l outside (run Cpu fresh act z w fs) (run Cpu fresh act z a (only Cpu fresh act A fs)) (whole_run A l outside z w a fs (whole_first A l outside w w len refl pw pw (λ u h e. same_object))) o ol ao)

@@ -3,6 +3,7 @@
 use Rattle.std.specs.Prelude.{ℕ}
 use Rattle.rights.specs.World.{Act}
 use Rattle.rights.specs.Promise as promise
+use Rattle.rights.specs.Effects as effects
 use Rattle.rv32.specs.declared.registers.Cpu.{Cpu}
 
 -- a pool is never overdrawn: no more of it is used than there is, whatever happens
@@ -14,7 +15,7 @@ Within = (fresh : ℕ → Cpu) (act : Cpu → (ℕ → ℕ) → Act Cpu) → pro
 abbrev pub CutExactly : Type 0
 CutExactly = (fresh : ℕ → Cpu) (act : Cpu → (ℕ → ℕ) → Act Cpu) → promise.CutExactly Cpu fresh act
 
--- a pool is filled up to the least multiple that is not below what is used
+-- filling up goes to the least multiple that is not below, and what a kind is filled up to is a multiple of something above 0
 abbrev pub FillsUpLeast : Type 0
 FillsUpLeast = promise.FillsUpLeast
 
@@ -79,3 +80,35 @@ AtOnce = (fresh : ℕ → Cpu) (act : Cpu → (ℕ → ℕ) → Act Cpu) → pro
 -- whoever meets goes on in that very event: the sender with 0, the receiver with 0, the badge and the words; one of them waited there, the other made a call
 abbrev pub MetGoOn : Type 0
 MetGoOn = (fresh : ℕ → Cpu) (act : Cpu → (ℕ → ℕ) → Act Cpu) → promise.MetGoOn Cpu fresh act
+
+-- a capability in a slot was there before the event, or came into an empty slot by a move, by handing on, by a copy or by a cut
+abbrev pub ComesFrom : Type 0
+ComesFrom = (fresh : ℕ → Cpu) (act : Cpu → (ℕ → ℕ) → Act Cpu) → effects.ComesFrom Cpu fresh act
+
+-- no birth is ever in two slots
+abbrev pub OnceStays : Type 0
+OnceStays = (fresh : ℕ → Cpu) (act : Cpu → (ℕ → ℕ) → Act Cpu) → effects.OnceStays Cpu fresh act
+
+-- what each call does but a send and a receive: when it is done, and what it leaves; else it is refused, and the world is as it was
+abbrev pub CallsDo : Type 0
+CallsDo = (fresh : ℕ → Cpu) (act : Cpu → (ℕ → ℕ) → Act Cpu) → effects.CallsDo Cpu fresh act
+
+-- a call that is refused leaves the world as it was
+abbrev pub RefusedLeaves : Type 0
+RefusedLeaves = (fresh : ℕ → Cpu) (act : Cpu → (ℕ → ℕ) → Act Cpu) → effects.RefusedLeaves Cpu fresh act
+
+-- rights never grow by calls, whatever the world's own record says
+abbrev pub NoMoreByCalls : Type 0
+NoMoreByCalls = (fresh : ℕ → Cpu) (act : Cpu → (ℕ → ℕ) → Act Cpu) → effects.NoMoreByCalls Cpu fresh act
+
+-- an object has the same kind, size and pool until it is gone, and what is gone stays gone
+abbrev pub Stays : Type 0
+Stays = (fresh : ℕ → Cpu) (act : Cpu → (ℕ → ℕ) → Act Cpu) → effects.Stays Cpu fresh act
+
+-- what a revoke does, whole: when it is refused, and what it leaves of every slot and object
+abbrev pub RevokeExactly : Type 0
+RevokeExactly = (fresh : ℕ → Cpu) (act : Cpu → (ℕ → ℕ) → Act Cpu) → effects.RevokeExactly Cpu fresh act × effects.EmptyStays Cpu fresh act
+
+-- each send that comes back with 0 was received once: the messages answered with 0 at a port are those of its meetings, one for one and in the same order
+abbrev pub SentOnce : Type 0
+SentOnce = (fresh : ℕ → Cpu) (act : Cpu → (ℕ → ℕ) → Act Cpu) → effects.SentOnce Cpu fresh act

@@ -1,11 +1,12 @@
 -- Definitions of the world with a fault in each, and the law that the fault breaks: the law holds of the world's own definition and not of the faulty one.
 -- Assumes nothing: these are definitions and statements.
-use Rattle.std.specs.Prelude.{◌≡◌, ◌-◌, ◌||◌, Bool, true, false, List, [], ◌∷◌, ℕ, suc, eqb, get_or}
-use Rattle.rights.specs.World.{Call, send, receive, cut, copy, revoke, call, ready, Sizes, Event, tick, byte}
-use Rattle.rights.specs.World.{object, slot, slot_object, is_pool, offspring, cleared, with_object, does, seen, went_on, acts, ticked, event, run}
+use Rattle.std.specs.Prelude.{◌≡◌, ◌+◌, ◌==◌, length, not, ◌-◌, ◌||◌, Bool, true, false, List, [], ◌∷◌, ℕ, suc, eqb, get_or}
+use Rattle.rights.specs.World.{Call, move, drop_it, say, refuse, table_of, send, receive, cut, copy, revoke, call, ready, Sizes, Event, tick, byte}
+use Rattle.rights.specs.World.{object, slot, slot_object, is_pool, offspring, cleared, with_object, with_slot, does, seen, went_on, acts, ticked, event, run}
 use Rattle.rights.specs.World.{Act, World, Object, Slot, Rights, Wait, Went, empty, cap, gone, table, port, page, pool, thread, line, sender, on, wait, pick, among, copied, slot_rights, slot_birth, slots_of, is_empty, cleaned, clean_all, receiving, handed}
-use Rattle.rights.specs.Promise.{RevokedByCalls, RevokedByCallsIn, UsedCovers, UsedCoversIn, MetGoOn, MetGoOnIn, first_at, port_at}
-use Rattle.laws.specs.Examples.{copies_twice, cuts_two, talks}
+use Rattle.rights.specs.Promise.{all_births, NoMore, NoMoreIn, Within, WithinIn, HeldIsThere, HeldIsThereIn, FirstCome, FirstComeIn, Unreached, UnreachedIn, RevokedByCalls, RevokedByCallsIn, CutExactly, CutExactlyIn, UsedCovers, UsedCoversIn, MetGoOn, MetGoOnIn, first_at, port_at}
+use Rattle.rights.specs.Effects.{ComesFrom, WhenceIn, OnceStays, OnceStaysIn, NoMoreByCalls, NoMoreByCallsIn, RefusedLeaves, RefusedLeavesIn, CallsDo, CallsDoIn, Stays, StaysIn, SentOnce, SentOnceIn, RevokeExactly, RevokeExactlyIn}
+use Rattle.laws.specs.Examples.{all, copies_twice, cuts_two, talks, hands_over, asks_all, cuts_pool, cuts_and_revokes, drops, queues, telling}
 use Rattle.rv32.specs.Registers as core
 use Rattle.rv32.specs.declared.registers.Cpu.{Cpu}
 
@@ -82,6 +83,19 @@ handed_always fresh act w h p s q d = handed Cpu fresh act w true p s q d
 abbrev pub HandOnTested : Type 0
 HandOnTested = (fresh : ℕ → Cpu) (act : Cpu → (ℕ → ℕ) → Act Cpu) → HandsByRight (handed Cpu fresh act) × (HandsByRight (handed_always fresh act) → ⊥)
 
+-- a capability with other rights; a pool of which twice as much is used; a table with one slot more
+unfoldable pub with_rights : Rights → Slot → Slot
+with_rights r empty = empty
+with_rights r (cap o q b j m) = cap o r b j m
+
+unfoldable pub twice_used : Object Cpu → Object Cpu
+twice_used (pool f n u) = pool f n (u + u)
+twice_used x = x
+
+unfoldable pub grown : Object Cpu → Object Cpu
+grown (table f ss) = table f (empty ∷ ss)
+grown x = x
+
 -- WHOLE STEPS. Rows of events in which calls are done in another way, and all else is as in the world
 module _ (fresh : ℕ → Cpu) (act : Cpu → (ℕ → ℕ) → Act Cpu) where
   module _ (doing : Sizes → World Cpu → ℕ → Call → Went Cpu fresh act) where
@@ -139,6 +153,98 @@ module _ (fresh : ℕ → Cpu) (act : Cpu → (ℕ → ℕ) → Act Cpu) where
   does_unwoken z w p (receive s d) = untaken w (first_at Cpu fresh act w (port_at Cpu fresh act w p s)) (does Cpu fresh act z w p (receive s d))
   does_unwoken z w p c = does Cpu fresh act z w p c
 
+  -- a call after which slot h of thread p holds what it held before
+  unfoldable pub left_there : World Cpu → ℕ → ℕ → Went Cpu fresh act → Went Cpu fresh act
+  left_there w p h (on v ws) = on (with_slot Cpu fresh act v p h (slot Cpu fresh act w p h)) ws
+  left_there w p h (wait v o) = wait v o
+
+  -- handing on that copies: the slot of the one who sends keeps what it holds
+  unfoldable pub does_copying : Sizes → World Cpu → ℕ → Call → Went Cpu fresh act
+  does_copying z w p (send s ws g h) = left_there w p h (does Cpu fresh act z w p (send s ws g h))
+  does_copying z w p c = does Cpu fresh act z w p c
+
+  -- a call after which slot d of thread p holds another thing
+  unfoldable pub got_as : (Slot → Slot) → ℕ → ℕ → Went Cpu fresh act → Went Cpu fresh act
+  got_as f p d (on v ws) = on (with_slot Cpu fresh act v p d (f (slot Cpu fresh act v p d))) ws
+  got_as f p d (wait v o) = wait v o
+
+  -- handing on that changes what is handed on
+  unfoldable pub does_changing : (Slot → Slot) → Sizes → World Cpu → ℕ → Call → Went Cpu fresh act
+  does_changing f z w p (receive s d) = got_as f p d (does Cpu fresh act z w p (receive s d))
+  does_changing f z w p c = does Cpu fresh act z w p c
+
+  -- a copy with the rights that are asked for, also those that the first lacks
+  unfoldable pub does_wide : Sizes → World Cpu → ℕ → Call → Went Cpu fresh act
+  does_wide z w p (copy s d r b) = got_as (with_rights r) p d (does Cpu fresh act z w p (copy s d r b))
+  does_wide z w p c = does Cpu fresh act z w p c
+
+  -- a cut that takes twice of its pool
+  unfoldable pub taken_twice : ℕ → Went Cpu fresh act → Went Cpu fresh act
+  taken_twice o (on v ws) = on (with_object Cpu fresh act v o (twice_used (object Cpu fresh act v o))) ws
+  taken_twice o (wait v u) = wait v u
+
+  unfoldable pub does_twice : Sizes → World Cpu → ℕ → Call → Went Cpu fresh act
+  does_twice z w p (cut s k d) = taken_twice (slot_object (slot Cpu fresh act w p s) - 1) (does Cpu fresh act z w p (cut s k d))
+  does_twice z w p c = does Cpu fresh act z w p c
+
+  -- a revoke after which slot 7 holds what it held
+  unfoldable pub does_leaving : Sizes → World Cpu → ℕ → Call → Went Cpu fresh act
+  does_leaving z w p (revoke s) = left_there w p 7 (does Cpu fresh act z w p (revoke s))
+  does_leaving z w p c = does Cpu fresh act z w p c
+
+  -- a send that comes back with 0 where nobody receives, and is lost
+  unfoldable pub lost : World Cpu → Went Cpu fresh act → Went Cpu fresh act
+  lost w (on v ws) = on v ws
+  lost w (wait v o) = on w (0 ∷ [])
+
+  unfoldable pub does_lost : Sizes → World Cpu → ℕ → Call → Went Cpu fresh act
+  does_lost z w p (send s ws g h) = lost w (does Cpu fresh act z w p (send s ws g h))
+  does_lost z w p c = does Cpu fresh act z w p c
+
+  -- a receive that meets the last who waits
+  unfoldable pub does_last : Sizes → World Cpu → ℕ → Call → Went Cpu fresh act
+  does_last z w p (receive s d) =
+      pick (is_empty (slot Cpu fresh act w p s) || not (slot_rights (slot Cpu fresh act w p s)).reads) (refuse Cpu fresh act w)
+      (receiving_last fresh act w p (slot_object (slot Cpu fresh act w p s) - 1) d (object Cpu fresh act w (slot_object (slot Cpu fresh act w p s) - 1)))
+  does_last z w p c = does Cpu fresh act z w p c
+
+  -- an answer that tells how many slots are full in all tables
+  unfoldable pub counted : World Cpu → Went Cpu fresh act → Went Cpu fresh act
+  counted w (on v ws) = on v (0 ∷ length (all_births Cpu fresh act w.objects) ∷ [])
+  counted w (wait v o) = wait v o
+
+  unfoldable pub does_counting : Sizes → World Cpu → ℕ → Call → Went Cpu fresh act
+  does_counting z w p (say s b) = counted w (does Cpu fresh act z w p (say s b))
+  does_counting z w p c = does Cpu fresh act z w p c
+
+  -- a move that is refused and empties its slot
+  unfoldable pub spilled : ℕ → ℕ → Went Cpu fresh act → Went Cpu fresh act
+  spilled p s (on v []) = on v []
+  spilled p s (on v (a ∷ ws)) = pick (a == 0) (on v (a ∷ ws)) (on (with_slot Cpu fresh act v p s empty) (a ∷ ws))
+  spilled p s (wait v o) = wait v o
+
+  unfoldable pub does_spilling : Sizes → World Cpu → ℕ → Call → Went Cpu fresh act
+  does_spilling z w p (move s d) = spilled p s (does Cpu fresh act z w p (move s d))
+  does_spilling z w p c = does Cpu fresh act z w p c
+
+  -- a drop after which the table has one slot more
+  unfoldable pub grows : ℕ → Went Cpu fresh act → Went Cpu fresh act
+  grows p (on v ws) = on (with_object Cpu fresh act v (table_of Cpu fresh act (object Cpu fresh act v p) - 1) (grown (object Cpu fresh act v (table_of Cpu fresh act (object Cpu fresh act v p) - 1)))) ws
+  grows p (wait v o) = wait v o
+
+  unfoldable pub does_growing : Sizes → World Cpu → ℕ → Call → Went Cpu fresh act
+  does_growing z w p (drop_it s) = grows p (does Cpu fresh act z w p (drop_it s))
+  does_growing z w p c = does Cpu fresh act z w p c
+
+-- the same with badge 7, and with all rights
+unfoldable pub rebadged : Slot → Slot
+rebadged empty = empty
+rebadged (cap o r b j m) = cap o r 7 j m
+
+unfoldable pub widened : Slot → Slot
+widened empty = empty
+widened (cap o r b j m) = cap o all b j m
+
 abbrev pub StepsTested : Type 0
 StepsTested = (fresh : ℕ → Cpu) (act : Cpu → (ℕ → ℕ) → Act Cpu) → OwnSteps fresh act
 
@@ -154,12 +260,64 @@ OnceTested =
     RevokedByCalls Cpu core.fresh copies_twice ×
     (RevokedByCallsIn Cpu core.fresh copies_twice (does_once core.fresh copies_twice) (event_by core.fresh copies_twice (does_once core.fresh copies_twice)) (run_by core.fresh copies_twice (does_once core.fresh copies_twice)) → ⊥)
 
--- more stands cut than is used, where cuts take nothing
+-- more stands cut than is used, where cuts take nothing; and less is used than a cut is to take
 abbrev pub UntakenTested : Type 0
-UntakenTested = UsedCovers Cpu core.fresh cuts_two × (UsedCoversIn Cpu core.fresh cuts_two (run_by core.fresh cuts_two (does_untaken core.fresh cuts_two)) → ⊥)
+UntakenTested =
+    (UsedCovers Cpu core.fresh cuts_two × (UsedCoversIn Cpu core.fresh cuts_two (run_by core.fresh cuts_two (does_untaken core.fresh cuts_two)) → ⊥)) ×
+    (CutExactly Cpu core.fresh cuts_two × (CutExactlyIn Cpu core.fresh cuts_two (does_untaken core.fresh cuts_two) → ⊥))
 
--- a meeting is noted and only one of the two goes on, where the one who waited is not woken
+-- a meeting is noted and only one of the two goes on, where the one who waited is not woken; and a message is received that is not answered
 abbrev pub UnwokenTested : Type 0
 UnwokenTested =
-    MetGoOn Cpu core.fresh talks ×
-    (MetGoOnIn Cpu core.fresh talks (event_by core.fresh talks (does_unwoken core.fresh talks)) (run_by core.fresh talks (does_unwoken core.fresh talks)) → ⊥)
+    (MetGoOn Cpu core.fresh talks ×
+    (MetGoOnIn Cpu core.fresh talks (does_unwoken core.fresh talks) (event_by core.fresh talks (does_unwoken core.fresh talks)) (run_by core.fresh talks (does_unwoken core.fresh talks)) → ⊥)) ×
+    (SentOnce Cpu core.fresh talks × (SentOnceIn Cpu core.fresh talks (does_unwoken core.fresh talks) (event_by core.fresh talks (does_unwoken core.fresh talks)) → ⊥))
+
+-- a birth is in two slots, where handing on copies
+abbrev pub CopyingTested : Type 0
+CopyingTested = OnceStays Cpu core.fresh (hands_over 3) × (OnceStaysIn Cpu core.fresh (hands_over 3) (run_by core.fresh (hands_over 3) (does_copying core.fresh (hands_over 3))) → ⊥)
+
+-- a capability comes from nowhere, where handing on gives it another badge, or more rights
+abbrev pub RebadgedTested : Type 0
+RebadgedTested = ComesFrom Cpu core.fresh (hands_over 3) × (WhenceIn Cpu core.fresh (hands_over 3) (event_by core.fresh (hands_over 3) (does_changing core.fresh (hands_over 3) rebadged)) → ⊥)
+
+abbrev pub WidenedTested : Type 0
+WidenedTested = ComesFrom Cpu core.fresh (hands_over 0) × (WhenceIn Cpu core.fresh (hands_over 0) (event_by core.fresh (hands_over 0) (does_changing core.fresh (hands_over 0) widened)) → ⊥)
+
+-- rights grow, where a copy has the rights that are asked for: by the world's record, and by calls
+abbrev pub WideTested : Type 0
+WideTested =
+    (NoMore Cpu core.fresh asks_all × (NoMoreIn Cpu core.fresh asks_all (run_by core.fresh asks_all (does_wide core.fresh asks_all)) → ⊥)) ×
+    (NoMoreByCalls Cpu core.fresh asks_all × (NoMoreByCallsIn Cpu core.fresh asks_all (does_wide core.fresh asks_all) (event_by core.fresh asks_all (does_wide core.fresh asks_all)) (run_by core.fresh asks_all (does_wide core.fresh asks_all)) → ⊥))
+
+-- a pool is overdrawn, where a cut takes twice
+abbrev pub TwiceTested : Type 0
+TwiceTested = Within Cpu core.fresh cuts_pool × (WithinIn Cpu core.fresh cuts_pool (run_by core.fresh cuts_pool (does_twice core.fresh cuts_pool)) → ⊥)
+
+-- a slot leads to what is gone, where a revoke leaves it; and it is not empty, as it is to be
+abbrev pub LeavingTested : Type 0
+LeavingTested =
+    (HeldIsThere Cpu core.fresh cuts_and_revokes × (HeldIsThereIn Cpu core.fresh cuts_and_revokes (run_by core.fresh cuts_and_revokes (does_leaving core.fresh cuts_and_revokes)) → ⊥)) ×
+    (RevokeExactly Cpu core.fresh cuts_and_revokes × (RevokeExactlyIn Cpu core.fresh cuts_and_revokes (does_leaving core.fresh cuts_and_revokes) (run_by core.fresh cuts_and_revokes (does_leaving core.fresh cuts_and_revokes)) → ⊥))
+
+-- somebody meets nobody, where a send is lost
+abbrev pub LostTested : Type 0
+LostTested = MetGoOn Cpu core.fresh talks × (MetGoOnIn Cpu core.fresh talks (does_lost core.fresh talks) (event_by core.fresh talks (does_lost core.fresh talks)) (run_by core.fresh talks (does_lost core.fresh talks)) → ⊥)
+
+-- the second who came is met first, where a receive meets the last who waits
+abbrev pub LastTested : Type 0
+LastTested = FirstCome Cpu core.fresh queues × (FirstComeIn Cpu core.fresh queues (does_last core.fresh queues) (event_by core.fresh queues (does_last core.fresh queues)) → ⊥)
+
+-- a set sees what another does, where an answer tells how many slots are full
+abbrev pub CountingTested : Type 0
+CountingTested = Unreached Cpu core.fresh telling × (UnreachedIn Cpu core.fresh telling (run_by core.fresh telling (does_counting core.fresh telling)) → ⊥)
+
+-- a call that is refused changes the world, where a refused move empties its slot
+abbrev pub SpillingTested : Type 0
+SpillingTested =
+    (RefusedLeaves Cpu core.fresh drops × (RefusedLeavesIn Cpu core.fresh drops (does_spilling core.fresh drops) (event_by core.fresh drops (does_spilling core.fresh drops)) → ⊥)) ×
+    (CallsDo Cpu core.fresh drops × (CallsDoIn Cpu core.fresh drops (does_spilling core.fresh drops) → ⊥))
+
+-- an object has another size, where a drop makes the table larger
+abbrev pub GrowingTested : Type 0
+GrowingTested = Stays Cpu core.fresh drops × (StaysIn Cpu core.fresh drops (run_by core.fresh drops (does_growing core.fresh drops)) → ⊥)

@@ -1,9 +1,11 @@
 // The laws of the abstract world: each function's contract names one.
 #![tactic(auto)]
 
-ghost use Rattle.laws.specs.Laws.{Within, CutExactly, FillsUpLeast, UsedCovers, NoMore, Revoked, RevokedByCalls, RecordIsExact, RevokeTakes, RevokedAnyFails, HeldIsThere, NothingDangles, Unreached, FirstCome, ComesBack, AtOnce, MetGoOn, ImageStarts};
-ghost use Rattle.laws.specs.Examples.{Starts, Carried, Cuts, Stands, Makes, MakesTwice, Meets, Parts};
-ghost use Rattle.laws.specs.Wrong.{CopyTested, RevokeTested, PortTested, HandOnTested, StepsTested, UnrecordedTested, OnceTested, UntakenTested, UnwokenTested};
+ghost use Rattle.laws.specs.Laws.{Within, CutExactly, FillsUpLeast, UsedCovers, NoMore, Revoked, RevokedByCalls, RecordIsExact, RevokeTakes, RevokedAnyFails, HeldIsThere, NothingDangles, Unreached, FirstCome, ComesBack, AtOnce, MetGoOn, ImageStarts, ComesFrom, OnceStays, CallsDo, RefusedLeaves, NoMoreByCalls, Stays, RevokeExactly, SentOnce};
+ghost use Rattle.laws.specs.Examples.{Starts, Carried, Cuts, Stands, Makes, MakesTwice, Meets, HandsOver, CanBeDone, Queues, Parts};
+ghost use Rattle.laws.specs.Wrong.{CopyTested, RevokeTested, PortTested, HandOnTested, StepsTested, UnrecordedTested, OnceTested, UntakenTested, UnwokenTested, CopyingTested, RebadgedTested, WidenedTested, WideTested, TwiceTested, LeavingTested, LostTested, LastTested, CountingTested, SpillingTested, GrowingTested};
+ghost use Rattle.laws.specs.CallRows.{RowsAreRight};
+ghost use Rattle.laws.specs.Speech.{SaidIsShown, Speaks, UnaskedTested};
 
 // A pool is never overdrawn.
 pub fn never_overdrawn()
@@ -135,6 +137,11 @@ pub fn example_parts()
     ensures { Parts }
 {}
 
+// Eight rows of calls come back and leave what their table says.
+pub fn rows_are_right()
+    ensures { RowsAreRight }
+{}
+
 // A copy that keeps a right that it should drop is found.
 pub fn copy_tested()
     ensures { CopyTested }
@@ -178,4 +185,129 @@ pub fn untaken_cut_tested()
 // A meeting after which the one who waited waits on is found by the law of meetings.
 pub fn unwoken_meeting_tested()
     ensures { UnwokenTested }
+{}
+
+// Each line shows what it showed and then what was said on it, in order.
+pub fn said_is_shown()
+    ensures { SaidIsShown }
+{}
+
+// Two bytes said, and one that isn't.
+pub fn example_speaks()
+    ensures { Speaks }
+{}
+
+// A byte that is shown without the right to write is found by the law of what is said.
+pub fn unasked_say_tested()
+    ensures { UnaskedTested }
+{}
+
+// A capability in a slot was there before, or came there by a move, by handing on, by a copy or by a cut.
+pub fn whence_they_come()
+    ensures { ComesFrom }
+{}
+
+// No birth is ever in two slots.
+pub fn once_stays()
+    ensures { OnceStays }
+{}
+
+// A slot is handed on by a sender that waits.
+pub fn example_hands_over()
+    ensures { HandsOver }
+{}
+
+// Handing on that copies is found.
+pub fn copying_hand_on_tested()
+    ensures { CopyingTested }
+{}
+
+// Handing on that gives another badge is found.
+pub fn rebadged_hand_on_tested()
+    ensures { RebadgedTested }
+{}
+
+// Handing on that gives more rights is found.
+pub fn widened_hand_on_tested()
+    ensures { WidenedTested }
+{}
+
+// What each call does, but a send and a receive.
+pub fn what_calls_do()
+    ensures { CallsDo }
+{}
+
+// A call that is refused leaves the world as it was.
+pub fn refused_calls_leave()
+    ensures { RefusedLeaves }
+{}
+
+// Rights never grow by calls, through any others.
+pub fn rights_never_grow_by_calls()
+    ensures { NoMoreByCalls }
+{}
+
+// An object has the same kind, size and pool until it is gone, and what is gone stays gone.
+pub fn objects_stay()
+    ensures { Stays }
+{}
+
+// A revoke, whole.
+pub fn revoke_leaves_exactly()
+    ensures { RevokeExactly }
+{}
+
+// Each call can be done, and one can be refused.
+pub fn example_can_be_done()
+    ensures { CanBeDone }
+{}
+
+// Three threads at one port.
+pub fn example_queues()
+    ensures { Queues }
+{}
+
+// A copy with more rights is found by the laws of rights.
+pub fn wide_copy_tested()
+    ensures { WideTested }
+{}
+
+// A cut that overdraws its pool is found.
+pub fn twice_taken_tested()
+    ensures { TwiceTested }
+{}
+
+// A revoke that leaves a slot to what is gone is found.
+pub fn left_slot_tested()
+    ensures { LeavingTested }
+{}
+
+// A send that is lost is found by the law of meetings.
+pub fn lost_send_tested()
+    ensures { LostTested }
+{}
+
+// A receive that meets the last who waits is found by the law of order.
+pub fn last_met_tested()
+    ensures { LastTested }
+{}
+
+// An answer that tells of others is found.
+pub fn telling_answer_tested()
+    ensures { CountingTested }
+{}
+
+// A refused call that changes the world is found.
+pub fn spilling_move_tested()
+    ensures { SpillingTested }
+{}
+
+// A table that grows is found.
+pub fn growing_table_tested()
+    ensures { GrowingTested }
+{}
+
+// What is sent is received once.
+pub fn sent_once()
+    ensures { SentOnce }
 {}

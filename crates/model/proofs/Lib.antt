@@ -10,6 +10,8 @@ pub mod Scans
 pub mod Kin
 pub mod Revoked
 pub mod Happens
+pub mod Spoken
+pub mod Always
 pub mod Small
 pub mod Keeping
 pub mod Kept

@@ -12,10 +12,6 @@ if_64_bits n = cond (nat_lt n (2 ^ 64)) (Some n) None
 abbrev pub room : NewObject → ℕ → ℕ → Option ℕ
 room k n u = cond (right k && nat_le (used_after k u) n) (Some (used_after k u)) None
 
--- a pool's size and used part
-abbrev pub pool_of : Thing → Option (ℕ × ℕ)
-pool_of x = on_pool x None (λ f n u. Some (n, u))
-
 -- room in an object, if it is a pool, and another used part
 abbrev pub room_in : NewObject → Thing → Option ℕ
 room_in k x = on_pool x None (λ f n u. room k n u)

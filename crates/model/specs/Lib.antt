@@ -3,6 +3,7 @@ pub mod Calls
 pub mod Cuts
 pub mod Sweeps
 pub mod Turns
+pub mod Says
 pub mod Sound
 pub mod Meaning
 pub mod Same

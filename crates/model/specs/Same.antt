@@ -1,14 +1,17 @@
 -- The program's world and the abstract world go step by step alike. Assumes nothing: these are statements.
-use Rattle.std.specs.Prelude.{◌≡◌, ℕ, List, [], ◌∷◌}
+use Rattle.std.specs.Prelude.{◌≡◌, ℕ, List, [], ◌∷◌, Option}
 use Rattle.rights.specs.declared.calls.Call.{Call}
 use Rattle.rights.specs.Request.{call_of}
 use Rattle.rights.specs.World as w
+use Rattle.rights.specs.Said.{event_says}
 use Rattle.rv32.specs.declared.registers.Cpu.{Cpu}
 use Rattle.rv32.specs.Registers.{fresh}
+use Rattle.rv32.specs.declared.steps.Step.{Step}
 use Rattle.rv32.specs.Execute.{act}
 use Rattle.model.specs.Plain.{Whole, object, with_object}
 use Rattle.model.specs.Calls.{comes_in}
-use Rattle.model.specs.Turns.{does, Ticked}
+use Rattle.model.specs.Turns.{does, told_of, next_act, Ticked}
+use Rattle.model.specs.Says.{says_next}
 use Rattle.model.specs.Sound.{Sound}
 use Rattle.model.specs.Meaning.{sizes, world_of, went_of}
 
@@ -38,3 +41,12 @@ Ran v (w.byte o b ∷ es) u = Ran (with_object v o (comes_in b (object v o))) es
 abbrev pub RowsAgree : Type 0
 RowsAgree =
     (v u : Whole) → Sound v → (es : List w.Event) → Ran v es u → (world_of u ≡ w.run Cpu fresh act sizes (world_of v) es) × Sound u
+
+-- what a thread says with what it does next is what the abstract world says in its time
+abbrev pub SaysAgree : Type 0
+SaysAgree =
+    (v : Whole) (p : ℕ) (s : Option Step) → told_of (object v p) s ≡ next_act v (object v p) → says_next v p s ≡ event_says Cpu fresh act sizes (world_of v) (w.tick p)
+
+-- and there always is something left, of an instruction's time and of a whole row
+abbrev pub AlwaysLeft : Type 0
+AlwaysLeft = ((v : Whole) (p : ℕ) → (u : Whole) × Ticked v p u) × ((v : Whole) (es : List w.Event) → (u : Whole) × Ran v es u)

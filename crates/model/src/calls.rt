@@ -139,9 +139,9 @@ impl World {
     {
         let table = self.writable(p, s)?.object;
         let thread = self.writable(p, t)?.object;
-        if !self.get(table).is_some_and(Object::is_table) {
+        let Some(Object::Table { .. }) = self.get(table) else {
             return Err(Refused);
-        }
+        };
         self.get_mut(thread).ok_or(Refused)?.bind(table)
     }
 
@@ -150,9 +150,9 @@ impl World {
     {
         let page = self.readable(p, s)?;
         let thread = self.writable(p, t)?.object;
-        if !self.get(page.object).is_some_and(Object::is_page) {
+        let Some(Object::Page { .. }) = self.get(page.object) else {
             return Err(Refused);
-        }
+        };
         self.get_mut(thread)
             .ok_or(Refused)?
             .map(place, page.object, page.rights.writes())

@@ -73,22 +73,14 @@ fn room(what: NewObject, size: u64, used: u64) -> Option<u64>
 }
 
 impl Object {
-    // A pool's size, and how much of it is used.
-    pub fn pool(&self) -> Option<(u64, u64)>
-        ensures { result ≡ cuts.pool_of (plain.thing self.now) }
-    {
-        match self {
-            Object::Pool { size, used, .. } => Some((*size, *used)),
-            _ => None,
-        }
-    }
-
     // How much of a pool is used once an object is cut, if it is a pool and that fits.
     pub fn room(&self, what: NewObject) -> Option<u64>
         ensures { result ≡ cuts.room_in what (plain.thing self.now) }
     {
-        let (size, used) = self.pool()?;
-        room(what, size, used)
+        match self {
+            Object::Pool { size, used, .. } => room(what, *size, *used),
+            _ => None,
+        }
     }
 
     pub fn set_used(&mut self, after: u64)
@@ -135,19 +127,12 @@ impl World {
         Ok(())
     }
 
-    // How many objects there ever were.
-    pub fn count(&self) -> usize
-        ensures { result ≡ length self.now.things }
-    {
-        self.objects.len()
-    }
-
     // The capability to the next object that is made.
     fn newborn(&self, mother: u64) -> Result<Capability, Fault>
         ensures { IfOk result (λ x. x ≡ calls.newborn self.now mother) }
     {
         Ok(Capability {
-            object: self.count(),
+            object: self.objects.len(),
             rights: Rights::all(),
             badge: 0,
             birth: self.next_birth()?,

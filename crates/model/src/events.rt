@@ -1,5 +1,9 @@
 // One instruction of a thread.
 ghost use Rattle.std.specs.Prelude.{◌≡◌, IfOk, OnOk};
+ghost use Rattle.rights.specs.Said.{event_says};
+ghost use Rattle.rights.specs.World.{tick};
+ghost use Rattle.rv32.specs.declared.registers.Cpu.{Cpu};
+ghost use Rattle.model.specs.Meaning.{sizes, world_of};
 ghost use Rattle.model.specs.Plain as plain;
 ghost use Rattle.model.specs.Turns as turns;
 ghost use Rattle.rv32.specs.Execute as core;
@@ -12,7 +16,7 @@ ghost use Rattle.rv32.specs.declared.steps.Step.TheVariants as Step;
 use crate::ends::{CallError, Outcome};
 use crate::objects::{Fault, Object, State, Thread, World};
 use crate::spaces::Space;
-use rights::{Answer, Call};
+use rights::{Answer, Call, Said};
 use rv32::{Cpu, Step, Width, act};
 
 impl Object {
@@ -213,13 +217,16 @@ impl World {
         Ok(())
     }
 
-    // One instruction's time for thread `p`; nothing if it is not ready.
-    pub fn tick(&mut self, p: usize) -> Result<(), Fault>
-        ensures { OnOk result (turns.Ticked self.old p self.new) }
+    // One instruction's time for thread `p`, and the byte that it says in it; nothing if it is not ready.
+    pub fn tick(&mut self, p: usize) -> Result<Option<Said>, Fault>
+        ensures ticked { IfOk result (λ _. turns.Ticked self.old p self.new) }
+        ensures said { IfOk result (λ said. said ≡ event_says Cpu registers.fresh core.act sizes (world_of self.old) (tick p)) }
     {
-        match self.next_step(p) {
-            Some(step) => self.carry_out(p, step),
-            None => Ok(()),
-        }
+        let Some(step) = self.next_step(p) else {
+            return Ok(None);
+        };
+        let said = self.says(p, step);
+        self.carry_out(p, step)?;
+        Ok(said)
     }
 }

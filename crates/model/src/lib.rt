@@ -11,6 +11,7 @@ mod meets;
 mod objects;
 mod parts;
 mod revokes;
+mod says;
 mod spaces;
 mod sweeps;
 mod theorems;
@@ -19,4 +20,6 @@ mod threads;
 pub use ends::{CallError, Outcome, Refused};
 pub use marks::Marks;
 pub use objects::{Capability, Fault, Letter, Mapping, Object, State, Thread, Wait, World};
-pub use theorems::{calls_agree, events_agree, rows_agree, small_is_sound, stays_sound};
+pub use theorems::{
+    always_left, calls_agree, events_agree, rows_agree, says_agree, small_is_sound, stays_sound,
+};

@@ -1,6 +1,5 @@
 // Marks: what was made from a capability, and what was cut from a pool, each found in one pass.
 ghost use Rattle.std.specs.Prelude.{◌≡◌, Bool, List, false, [], map, IfOk, slice_index_or};
-ghost use Rattle.model.specs.Calls as calls;
 ghost use Rattle.model.specs.Plain as plain;
 ghost use Rattle.model.specs.Sweeps as sweeps;
 
@@ -95,12 +94,6 @@ impl Object {
             Object::Gone | Object::Thread(_) | Object::Line { .. } => None,
         }
     }
-
-    pub fn is_pool(&self) -> bool
-        ensures { result ≡ calls.is_pool (plain.thing self.now) }
-    {
-        matches!(self, Object::Pool { .. })
-    }
 }
 
 // Whether an object was cut from pool `o`, or from one that has a mark.
@@ -143,9 +136,9 @@ impl World {
         ensures { IfOk result (λ v. v.items ≡ sweeps.cut_marks self.now o) }
     {
         let heap = *self.objects.allocator();
-        if !self.get(o).is_some_and(Object::is_pool) {
+        let Some(Object::Pool { .. }) = self.get(o) else {
             return Ok(Vec::new(heap));
-        }
+        };
         cuts_of(heap, o, self.objects.as_slice())
     }
 

@@ -9,15 +9,6 @@ use crate::ends::{CallError, Refused};
 use crate::objects::{Capability, Fault, Object, World};
 
 impl Object {
-    pub fn table(&self) -> Option<usize>
-        ensures { result ≡ plain.table_of (plain.thing self.now) }
-    {
-        match self {
-            Object::Thread(t) => t.table,
-            _ => None,
-        }
-    }
-
     pub fn slot(&self, s: u32) -> Option<Capability>
         ensures { result ≡ plain.slot_at (plain.thing self.now) s }
     {
@@ -27,20 +18,14 @@ impl Object {
         }
     }
 
-    pub fn has_slot(&self, s: u32) -> bool
-        ensures { result ≡ plain.has_at (plain.thing self.now) s }
-    {
-        match self {
-            Object::Table { slots, .. } => slots.get(s as usize).is_some(),
-            _ => false,
-        }
-    }
-
     // Whether the slot is there and empty.
     pub fn is_free(&self, s: u32) -> bool
         ensures { result ≡ (plain.has_at (plain.thing self.now) s && is_none (plain.slot_at (plain.thing self.now) s)) }
     {
-        self.has_slot(s) && self.slot(s).is_none()
+        match self {
+            Object::Table { slots, .. } => matches!(slots.get(s as usize), Some(None)),
+            _ => false,
+        }
     }
 
     pub fn put_slot(&mut self, s: u32, x: Option<Capability>)
@@ -96,7 +81,10 @@ impl World {
     pub fn table_of(&self, p: usize) -> Option<usize>
         ensures { result ≡ plain.table_of (plain.object self.now p) }
     {
-        self.get(p)?.table()
+        match self.get(p)? {
+            Object::Thread(t) => t.table,
+            _ => None,
+        }
     }
 
     pub fn slot(&self, p: usize, s: u32) -> Option<Capability>

@@ -17,19 +17,13 @@ fn sweep_all(all: &mut Vec<Object>, marks: &Marks)
 }
 
 impl World {
-    fn sweep(&mut self, marks: &Marks)
-        ensures { self.new ≡ sweeps.swept self.old marks.now }
-    {
-        sweep_all(&mut self.objects, marks);
-    }
-
     fn revoke_all(&mut self, c: Capability) -> Result<(), Fault>
         ensures { OnOk result (self.new ≡ sweeps.revoked self.old c) }
     {
         let marks = self.marks_for(c)?;
-        self.sweep(&marks);
+        sweep_all(&mut self.objects, &marks);
         if let Some(it) = self.get_mut(c.object) {
-            it.refill();
+            it.set_used(0);
         }
         Ok(())
     }
@@ -38,7 +32,7 @@ impl World {
         ensures { plain.Comes result (λ _. plain.on self.new Done) (plain.on self.new No) (sweeps.revoke self.old p s) }
     {
         let c = self.held(p, s)?;
-        if self.get(c.object).is_some_and(Object::is_pool) && !c.rights.writes() {
+        if matches!(self.get(c.object), Some(Object::Pool { .. })) && !c.rights.writes() {
             return Err(CallError::Refused);
         }
         self.revoke_all(c)?;

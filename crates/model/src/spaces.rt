@@ -18,15 +18,6 @@ impl Object {
     }
 }
 
-impl World {
-    // A reader by number; `get` says why.
-    pub fn byte(&self, o: usize, k: usize) -> u8
-        ensures { result ≡ turns.byte_in (plain.object self.now o) k }
-    {
-        self.get(o).map_or(0, |it| it.byte(k))
-    }
-}
-
 // The page at a place of a space, none past the end.
 pub fn page_at(pages: &[Mapping], i: usize) -> Option<usize>
     ensures { result ≡ plain.page_at pages.now i }
@@ -46,6 +37,7 @@ impl<'a> Memory for Space<'a> {
 
     fn byte(&self, address: u32) -> Option<u8> {
         let o = page_at(self.pages, address as usize / 4096)?;
-        Some(self.world.byte(o, address as usize % 4096))
+        let k = address as usize % 4096;
+        Some(self.world.get(o).map_or(0, |it| it.byte(k)))
     }
 }

@@ -111,13 +111,4 @@ impl Object {
             self.sweep(marks);
         }
     }
-
-    // What `set_used(0)` does, by the name of what it means; through that it is as long.
-    pub fn refill(&mut self)
-        ensures { plain.thing self.new ≡ sweeps.refilled (plain.thing self.old) }
-    {
-        if let Object::Pool { used, .. } = self {
-            *used = 0;
-        }
-    }
 }

@@ -1,6 +1,6 @@
 // The program's world and the abstract world go step by step alike.
 ghost use Rattle.model.specs.Example.{SmallIsSound};
-ghost use Rattle.model.specs.Same.{CallsAgree, EventsAgree, RowsAgree, StaysSound};
+ghost use Rattle.model.specs.Same.{AlwaysLeft, CallsAgree, EventsAgree, RowsAgree, SaysAgree, StaysSound};
 
 // Every call does what the abstract world does.
 pub fn calls_agree()
@@ -20,6 +20,16 @@ pub fn stays_sound()
 // Whole rows of events do what the abstract world does.
 pub fn rows_agree()
     ensures { RowsAgree }
+{}
+
+// What a thread says is what the abstract world says.
+pub fn says_agree()
+    ensures { SaysAgree }
+{}
+
+// There always is a world that is left.
+pub fn always_left()
+    ensures { AlwaysLeft }
 {}
 
 // What these ask of a world can be met.

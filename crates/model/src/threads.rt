@@ -1,6 +1,6 @@
-// What a call does to a thread, and tests of an object, which differ by a variant that no parameter can name. Each test of the state and of the place stands where
-// it is needed: a method that lends the thread would want clauses for the borrow, and is no plainer. A
-// place is held against 64 by hand, since of the get_mut of an array no element is known after it.
+// What a call does to a thread. Each test of the state and of the place stands where it is needed: a
+// method that lends the thread would want clauses for the borrow, and is no plainer. A place is held
+// against 64 by hand, since of the get_mut of an array no element is known after it.
 ghost use Rattle.std.specs.Prelude.{◌≡◌};
 ghost use Rattle.model.specs.Calls as calls;
 ghost use Rattle.model.specs.Plain as plain;
@@ -10,18 +10,6 @@ use crate::objects::{Mapping, Object, State, Thread};
 use rv32::Cpu;
 
 impl Object {
-    pub fn is_table(&self) -> bool
-        ensures { result ≡ calls.is_table (plain.thing self.now) }
-    {
-        matches!(self, Object::Table { .. })
-    }
-
-    pub fn is_page(&self) -> bool
-        ensures { result ≡ calls.is_page (plain.thing self.now) }
-    {
-        matches!(self, Object::Page { .. })
-    }
-
     // A stopped thread is ready, and new.
     pub fn go(&mut self, pc: u32) -> Result<(), Refused>
         ensures { plain.left (plain.thing self.new) (plain.done_or_no result) ≡ calls.starts pc (plain.thing self.old) }

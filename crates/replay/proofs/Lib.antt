@@ -4,3 +4,4 @@ pub mod Made
 pub mod Low
 pub mod Sound
 pub mod Happening
+pub mod Ran

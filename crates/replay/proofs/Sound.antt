@@ -18,8 +18,6 @@ use Rattle.model.specs.declared.objects.Thread.{Thread}
 use Rattle.model.specs.Plain as p
 use Rattle.model.specs.Calls.{is_page}
 use Rattle.model.specs.Sweeps.{base_of}
-use Rattle.model.specs.Same.{Ran}
-use Rattle.model.proofs.Lasting.{rows_agree}
 use Rattle.model.specs.Sound.{Dense, Sound}
 use Rattle.model.specs.Meaning.{sizes, number_of, page_of, may_write, cap_of, slot_of, state_of, core_of, object_of, world_of, meant}
 use Rattle.model.proofs.Agree.{object, slots_of, read_any, at_world, slot_at_world}
@@ -129,10 +127,3 @@ module _ (v : p.Whole) (allowed : Allowed sizes (world_of v)) where
 -- so is what an image that is taken is made into
 pub started : (lent : ℕ) (bs : List ℕ) (c : Census) (v : p.Whole) → Bytes bs → verdict all_kinds lent bs ≡ Ok c → meant v ≡ m.world_of bs → Sound v
 started lent bs c v low e h = is_sound v (subst (Allowed sizes) (sym h) (means_allowed all_kinds lent sizes bs c refl refl low e).0)
-
--- and a row from there leaves what it leaves of the abstract world
-pub ran : (lent : ℕ) (bs : List ℕ) (c : Census) (v u : p.Whole) (es : List w.Event) → Bytes bs → verdict all_kinds lent bs ≡ Ok c → meant v ≡ m.world_of bs → Ran v es u →
-    (meant u ≡ w.run Cpu fresh act sizes (m.world_of bs) es) × Sound u
-ran lent bs c v u es low e h r =
-    let k = rows_agree v u (started lent bs c v low e h) es r in
-    (k.0 ∙ ap (λ x. w.run Cpu fresh act sizes x es) h, k.1)

@@ -14,5 +14,5 @@ mod threads;
 
 pub use errors::StartError;
 pub use rows::carry_out_row;
-pub use runs::run;
+pub use runs::{FRAMES, Replayed, run, run_inputs};
 pub use starts::start;

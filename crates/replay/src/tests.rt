@@ -1,7 +1,9 @@
 // A small image, worked out by hand from the format: a line, a table of one slot and a thread.
-use crate::{StartError, run, start};
+use crate::{Replayed, StartError, run, run_inputs, start};
+use image::{Inputs, Part};
 use model::{Capability, Object, State};
 use rights::{Refusal, Rights};
+use std::test::Fail;
 
 // The headers are at 6, the slot at 15, and the thread at 22: its table there, its space from 24 on,
 // its ready mark at 216 and its pc at 217.
@@ -60,9 +62,10 @@ fn refuses_small(rt: HostRuntime) {
 // is no thread.
 #[test]
 fn runs_small(rt: HostRuntime) {
-    let Ok(world) = run(rt.alloc(), &small(), &[0, 2, 0, 1, 0, 0, 65], 1) else {
+    let Ok(Replayed { world, said }) = run(rt.alloc(), &small(), &[0, 2, 0, 1, 0, 0, 65], 1) else {
         panic!(rt; "it is not carried out")
     };
+    assert_eq!(rt; said.len(), 0);
     let Some(Object::Thread(thread)) = world.objects.get(2) else {
         panic!(rt; "object 2 is no thread")
     };
@@ -74,4 +77,24 @@ fn runs_small(rt: HostRuntime) {
     let event = StartError::Refused(Refusal::Event(3));
     let row = [0, 2, 0, 0, 0, 0];
     assert_eq!(rt; run(rt.alloc(), &small(), &row, 1).err(), Some(event));
+}
+
+// The same of two files. Events that go on beyond what was read are refused at the first byte too many.
+#[test]
+fn runs_inputs(rt: HostRuntime) -> Result<(), Fail> {
+    let more = StartError::Refused(Refusal::Event(7));
+    for (goes_on, expected) in [(false, None), (true, Some(more))] {
+        let inputs = Inputs {
+            image: Part {
+                bytes: small()[..].to_vec(rt.alloc())?,
+                more: false,
+            },
+            events: Part {
+                bytes: [0, 2, 0, 1, 0, 0, 65][..].to_vec(rt.alloc())?,
+                more: goes_on,
+            },
+        };
+        assert_eq!(rt; run_inputs(rt.alloc(), &inputs).err(), expected);
+    }
+    Ok(())
 }

@@ -2,7 +2,7 @@
 -- They are about every core: Cpu is what a core keeps, fresh a new one, act what the instruction at hand does.
 use Rattle.std.specs.Prelude.{◌≡◌, ℕ, zero, suc, ◌+◌, ◌-◌, ◌*◌, ◌<◌, ◌≤◌, Bool, true, false, ◌≢◌, List, [], ◌∷◌, ◌++◌, length, take, ◌==◌, slice_index, slice_index_or}
 use Rattle.rights.specs.World.{Act, World, Sizes, Event, Object, Slot, Rights, Call, Kind, State, Wait, Went}
-use Rattle.rights.specs.World.{empty, cap, gone, thread, table, pool, port, page, line, stopped, ready, waits, tick, byte, on, wait, quiet, store, call, wrong}
+use Rattle.rights.specs.World.{empty, cap, gone, thread, table, pool, port, page, line, stopped, ready, waits, sender, receiver, tick, byte, on, wait, quiet, store, call, wrong}
 use Rattle.rights.specs.World.{cut, copy, move, drop_it, revoke, send, receive, map, unmap, bind, go, say, hear, a_pool, a_table, a_port, a_page}
 use Rattle.rights.specs.World.{object, event, run, shown_by, does, offspring, slot, slots_of, from_of, has_slot, is_pool, slot_object, slot_badge, waits_thread, seen, made, all_rights, among, pick, no, up_to, step_of, cost}
 
@@ -117,18 +117,35 @@ module _ (Cpu : Type 0) (fresh : ℕ → Cpu) (act : Cpu → (ℕ → ℕ) → A
   only A [] = []
   only A (e ∷ es) = pick (mine A e) (e ∷ only A es) (only A es)
 
-  -- second half: two worlds in which the set's objects are the same, the others differing at will, show the same on the set's lines, for rows of events that have
+  -- two slots that hold the same but for the numbers of births
+  pub data SameSlot : Slot → Slot → Type 0 where
+    both_empty : SameSlot empty empty
+    both_hold : {o b i j m n : ℕ} {r : Rights} → SameSlot (cap o r b i m) (cap o r b j n)
+
+  -- two objects that are the same but for the numbers of births in their slots. An image counts births over all tables, so that they are other numbers where other tables are filled differently
+  pub data SameButBirths : Object Cpu → Object Cpu → Type 0 where
+    same_object : {x : Object Cpu} → SameButBirths x x
+    same_slots : {f : ℕ} {ss qs : List Slot} → length ss ≡ length qs → ((i : ℕ) → SameSlot (slice_index_or ss i empty) (slice_index_or qs i empty)) → SameButBirths (table f ss) (table f qs)
+
+  -- second half: two worlds in which the set's objects are the same but for births, the others differing at will, show the same on the set's lines, for rows of events that have
   -- the same of the set's instructions and bytes in the same order, the others' being any and anywhere between
-  unfoldable pub Unreached : Type 0
-  Unreached =
+  unfoldable pub UnreachedIn : (Sizes → World Cpu → List Event → World Cpu) → Type 0
+  UnreachedIn running =
       (z : Sizes) (A : ℕ → Bool) (v w : World Cpu) (es fs : List Event) (o : ℕ) → 1 ≤ z.bytes → Parted A v → Parted A w →
-      ((u : ℕ) → u < length v.objects → A u ≡ true → object Cpu fresh act v u ≡ object Cpu fresh act w u) → length v.objects ≡ length w.objects →
+      ((u : ℕ) → u < length v.objects → A u ≡ true → SameButBirths (object Cpu fresh act v u) (object Cpu fresh act w u)) → length v.objects ≡ length w.objects →
       only A es ≡ only A fs → A o ≡ true → o < length v.objects → ((u : ℕ) → length v.objects ≤ u → A u ≡ false) →
-      shown_by Cpu fresh act (object Cpu fresh act (run Cpu fresh act z v es) o) ≡ shown_by Cpu fresh act (object Cpu fresh act (run Cpu fresh act z w fs) o)
+      shown_by Cpu fresh act (object Cpu fresh act (running z v es) o) ≡ shown_by Cpu fresh act (object Cpu fresh act (running z w fs) o)
+
+  unfoldable pub Unreached : Type 0
+  Unreached = UnreachedIn (run Cpu fresh act)
 
   -- worlds that come about from one in which nothing was made yet
-  unfoldable pub Comes : Sizes → World Cpu → Type 0
-  Comes z w = (v : World Cpu) × (es : List Event) × (1 ≤ z.bytes) × Parted (λ o. true) v × (run Cpu fresh act z v es ≡ w)
+  -- running says what a row of events does: in the laws as in this world; elsewhere it is faulty, and a law has to refuse it
+  unfoldable pub ComesBy : (Sizes → World Cpu → List Event → World Cpu) → Sizes → World Cpu → Type 0
+  ComesBy running z w = (v : World Cpu) × (es : List Event) × (1 ≤ z.bytes) × Parted (λ o. true) v × (running z v es ≡ w)
+
+  abbrev pub Comes : Sizes → World Cpu → Type 0
+  Comes = ComesBy (run Cpu fresh act)
 
   -- after a capability was revoked, and the call came back with 0, nothing that was made from it is in any slot, whatever happens then
   unfoldable pub Revoked : Type 0
@@ -145,9 +162,12 @@ module _ (Cpu : Type 0) (fresh : ℕ → Cpu) (act : Cpu → (ℕ → ℕ) → A
       (es : List Event) → slice_index_or (slots_of Cpu fresh act (object Cpu fresh act (run Cpu fresh act z v es) o)) i empty ≢ cap t q c k n
 
   -- a pool is never overdrawn
+  unfoldable pub WithinIn : (Sizes → World Cpu → List Event → World Cpu) → Type 0
+  WithinIn running = (z : Sizes) (v : World Cpu) (es : List Event) → 1 ≤ z.bytes → ((o f n u : ℕ) → object Cpu fresh act v o ≡ pool f n u → u ≤ n) →
+      (o f n u : ℕ) → object Cpu fresh act (running z v es) o ≡ pool f n u → u ≤ n
+
   unfoldable pub Within : Type 0
-  Within = (z : Sizes) (v : World Cpu) (es : List Event) → 1 ≤ z.bytes → ((o f n u : ℕ) → object Cpu fresh act v o ≡ pool f n u → u ≤ n) →
-      (o f n u : ℕ) → object Cpu fresh act (run Cpu fresh act z v es) o ≡ pool f n u → u ≤ n
+  Within = WithinIn (run Cpu fresh act)
 
   -- what can be asked for: a pool of 1 to 4,096 frames, a table of 1 to 4,096 slots, a port, a page
   unfoldable pub Sized : Kind → Type 0
@@ -161,27 +181,34 @@ module _ (Cpu : Type 0) (fresh : ℕ → Cpu) (act : Cpu → (ℕ → ℕ) → A
   filled z k u = up_to (step_of z k) u + cost z k
 
   -- what is said of a cut of kind k into slot d, with slot s that leads to a pool o of n bytes, u of them used
-  pub record CutIs (z : Sizes) (w : World Cpu) (p s d o f n u j : ℕ) (k : Kind) : Type 0 where
+  -- doing says how a call is done: in the law as in this world; elsewhere it is faulty
+  pub record CutIs (doing : Sizes → World Cpu → ℕ → Call → Went Cpu fresh act) (z : Sizes) (w : World Cpu) (p s d o f n u j : ℕ) (k : Kind) : Type 0 where
     -- refused exactly if the pool is too small
-    pub refused : does Cpu fresh act z w p (cut s k d) ≡ on w (no ∷ []) → n < filled z k u
-    pub too_small : n < filled z k u → does Cpu fresh act z w p (cut s k d) ≡ on w (no ∷ [])
+    pub refused : doing z w p (cut s k d) ≡ on w (no ∷ []) → n < filled z k u
+    pub too_small : n < filled z k u → doing z w p (cut s k d) ≡ on w (no ∷ [])
     -- else it comes back with 0, so much is used, and the new object is in d with all rights, made from what s holds
-    pub done : filled z k u ≤ n → (v : World Cpu) × (does Cpu fresh act z w p (cut s k d) ≡ on v (0 ∷ [])) × (object Cpu fresh act v o ≡ pool f n (filled z k u)) ×
+    pub done : filled z k u ≤ n → (v : World Cpu) × (doing z w p (cut s k d) ≡ on v (0 ∷ [])) × (object Cpu fresh act v o ≡ pool f n (filled z k u)) ×
         (object Cpu fresh act v (length w.objects) ≡ made Cpu fresh act z (suc o) k) ×
         (slot Cpu fresh act v p d ≡ cap (length w.objects) (all_rights Cpu fresh act) 0 (suc w.births) j)
 
   -- a cut with write on a pool, into an empty slot, of a right kind and size
-  unfoldable pub CutExactly : Type 0
-  CutExactly =
+  unfoldable pub CutExactlyIn : (Sizes → World Cpu → ℕ → Call → Went Cpu fresh act) → Type 0
+  CutExactlyIn doing =
       (z : Sizes) (w : World Cpu) (p s d o f n u b j m : ℕ) (r : Rights) (k : Kind) → 1 ≤ z.bytes →
       slot Cpu fresh act w p s ≡ cap o r b j m → r.writes ≡ true → object Cpu fresh act w o ≡ pool f n u →
-      has_slot Cpu fresh act w p d ≡ true → slot Cpu fresh act w p d ≡ empty → Sized k → CutIs z w p s d o f n u j k
+      has_slot Cpu fresh act w p d ≡ true → slot Cpu fresh act w p d ≡ empty → Sized k → CutIs doing z w p s d o f n u j k
+
+  unfoldable pub CutExactly : Type 0
+  CutExactly = CutExactlyIn (does Cpu fresh act)
 
   -- what a slot holds is there
-  unfoldable pub HeldIsThere : Type 0
-  HeldIsThere =
-      (z : Sizes) (w : World Cpu) (o i u b j m : ℕ) (r : Rights) → Comes z w →
+  unfoldable pub HeldIsThereIn : (Sizes → World Cpu → List Event → World Cpu) → Type 0
+  HeldIsThereIn running =
+      (z : Sizes) (w : World Cpu) (o i u b j m : ℕ) (r : Rights) → ComesBy running z w →
       slice_index_or (slots_of Cpu fresh act (object Cpu fresh act w o)) i empty ≡ cap u r b j m → object Cpu fresh act w u ≢ gone
+
+  unfoldable pub HeldIsThere : Type 0
+  HeldIsThere = HeldIsThereIn (run Cpu fresh act)
 
   -- the threads of those who wait, in their order
   unfoldable pub waiters : List Wait → List ℕ
@@ -218,21 +245,18 @@ module _ (Cpu : Type 0) (fresh : ℕ → Cpu) (act : Cpu → (ℕ → ℕ) → A
       Kinds (run Cpu fresh act z v es) × Rows (run Cpu fresh act z v es)
 
   -- rights never grow: whoever was made from somebody has no right that the other lacks, as long as both lead to the same object
-  unfoldable pub NoMore : Type 0
-  NoMore =
-      (z : Sizes) (w : World Cpu) (o i u b j m p k v c n : ℕ) (r q : Rights) → Comes z w →
+  unfoldable pub NoMoreIn : (Sizes → World Cpu → List Event → World Cpu) → Type 0
+  NoMoreIn running =
+      (z : Sizes) (w : World Cpu) (o i u b j m p k v c n : ℕ) (r q : Rights) → ComesBy running z w →
       slice_index_or (slots_of Cpu fresh act (object Cpu fresh act w o)) i empty ≡ cap u r b j m → slice_index_or (slots_of Cpu fresh act (object Cpu fresh act w p)) k empty ≡ cap u q c m n →
       ((r.reads ≡ true → q.reads ≡ true) × (r.writes ≡ true → q.writes ≡ true) × (r.hands ≡ true → q.hands ≡ true))
+
+  unfoldable pub NoMore : Type 0
+  NoMore = NoMoreIn (run Cpu fresh act)
 
   -- threads were not cut from a pool, so that none goes while it waits
   unfoldable pub Uncut : World Cpu → Type 0
   Uncut w = (o f t : ℕ) (s : State Cpu) (c : Cpu) (ps : List ℕ) (rs : List Bool) → object Cpu fresh act w o ≡ thread f s c t ps rs → f ≡ 0
-
-  -- worlds as an image can carry them are starts that the laws speak of: of right kinds, threads uncut, pools not overdrawn
-  unfoldable pub ImageStarts : Type 0
-  ImageStarts =
-      (z : Sizes) (frames : List (Object Cpu) → ℕ) (w : World Cpu) → ((o : ℕ) → o < length w.objects → New z (object Cpu fresh act w o)) → Fits frames w →
-      Kinds w × Uncut w × ((o f n u : ℕ) → object Cpu fresh act w o ≡ pool f n u → u ≤ n)
 
   -- MADE FROM, by what happened: by calls and slots alone, not by the world's own record of what was made from what
   -- a call that makes a capability in slot d, with what slot s holds: a copy or a cut
@@ -303,30 +327,40 @@ module _ (Cpu : Type 0) (fresh : ℕ → Cpu) (act : Cpu → (ℕ → ℕ) → A
       ((o i t c k n : ℕ) (q : Rights) → slice_index_or (slots_of Cpu fresh act (object Cpu fresh act (run Cpu fresh act z v es) o)) i empty ≡ cap t q c k n →
       slice_index_or (slots_of Cpu fresh act (object Cpu fresh act x o)) i empty ≢ cap t q c k n → Taken z v es x j k t o)
 
-  -- WHAT STANDS CUT. What an object that stands costs
-  unfoldable pub cost_of : Sizes → Object Cpu → ℕ
-  cost_of z gone = 0
-  cost_of z (pool f n u) = n
-  cost_of z (table f ss) = length ss * 64
-  cost_of z (port f ws) = 64
-  cost_of z (page f bs) = z.bytes
-  cost_of z (thread f s c t ps rs) = 0
-  cost_of z (line xs ys) = 0
+  -- WHAT STANDS CUT. What an object that stands costs: a pool its bytes, a table 64 bytes for each slot, a port 64, a page its bytes
+  unfoldable pub cost_of : Object Cpu → ℕ
+  cost_of gone = 0
+  cost_of (pool f n u) = n
+  cost_of (table f ss) = length ss * 64
+  cost_of (port f ws) = 64
+  cost_of (page f bs) = length bs
+  cost_of (thread f s c t ps rs) = 0
+  cost_of (line xs ys) = 0
 
   -- what the objects that were cut from the pool with the number f - 1 cost together
-  unfoldable pub standing : Sizes → ℕ → List (Object Cpu) → ℕ
-  standing z f [] = 0
-  standing z f (x ∷ xs) = pick (from_of Cpu fresh act x == f) (cost_of z x) 0 + standing z f xs
+  unfoldable pub standing : ℕ → List (Object Cpu) → ℕ
+  standing f [] = 0
+  standing f (x ∷ xs) = pick (from_of Cpu fresh act x == f) (cost_of x) 0 + standing f xs
 
-  -- from a start of right kinds at which nothing is cut, what is used of a pool covers what stands cut from it, however events are run
+  -- every page has as many bytes as pages have
+  unfoldable pub Paged : Sizes → World Cpu → Type 0
+  Paged z w = (o f : ℕ) (bs : List ℕ) → object Cpu fresh act w o ≡ page f bs → length bs ≡ z.bytes
+
+  -- worlds as an image can carry them are starts that the laws speak of: of right kinds and pages, threads uncut, pools not overdrawn, nothing cut
+  unfoldable pub ImageStarts : Type 0
+  ImageStarts =
+      (z : Sizes) (frames : List (Object Cpu) → ℕ) (w : World Cpu) → ((o : ℕ) → o < length w.objects → New z (object Cpu fresh act w o)) → Fits frames w →
+      Kinds w × Uncut w × ((o f n u : ℕ) → object Cpu fresh act w o ≡ pool f n u → u ≤ n) × Paged z w × ((o : ℕ) → from_of Cpu fresh act (object Cpu fresh act w o) ≡ 0)
+
+  -- from a start of right kinds and pages at which nothing is cut, what is used of a pool covers what stands cut from it, however events are run
   unfoldable pub UsedCoversIn : (Sizes → World Cpu → List Event → World Cpu) → Type 0
   UsedCoversIn running =
-      (z : Sizes) (v : World Cpu) (es : List Event) (o f n u : ℕ) → 1 ≤ z.bytes → Kinds v → ((t : ℕ) → from_of Cpu fresh act (object Cpu fresh act v t) ≡ 0) →
-      object Cpu fresh act (running z v es) o ≡ pool f n u → standing z (suc o) (running z v es).objects ≤ u
+      (z : Sizes) (v : World Cpu) (es : List Event) (o f n u : ℕ) → 1 ≤ z.bytes → Kinds v → Paged z v → ((t : ℕ) → from_of Cpu fresh act (object Cpu fresh act v t) ≡ 0) →
+      object Cpu fresh act (running z v es) o ≡ pool f n u → standing (suc o) (running z v es).objects ≤ u
 
   -- what is used of a pool covers what stands cut from it; and what is cut stands for what it cost
   unfoldable pub UsedCovers : Type 0
-  UsedCovers = UsedCoversIn (run Cpu fresh act) × ((z : Sizes) (f : ℕ) (k : Kind) → cost_of z (made Cpu fresh act z f k) ≡ cost z k)
+  UsedCovers = UsedCoversIn (run Cpu fresh act) × ((z : Sizes) (f : ℕ) (k : Kind) → cost_of (made Cpu fresh act z f k) ≡ cost z k)
 
 -- a number is a multiple of another
 unfoldable pub Multiple : ℕ → ℕ → Type 0
@@ -375,6 +409,11 @@ met_at o (sends k t b ws ∷ ns) = met_at o ns
 met_at o (receives k t ∷ ns) = met_at o ns
 met_at o (meets k t q b ws ∷ ns) = pick (k == o) (got_by (message t b ws) q ∷ met_at o ns) (met_at o ns)
 
+-- one who waits is in a row
+pub data IsIn (y : Wait) : List Wait → Type 0 where
+  is_first : {ws : List Wait} → IsIn y (y ∷ ws)
+  is_later : {x : Wait} {ws : List Wait} → IsIn y ws → IsIn y (x ∷ ws)
+
 -- the first message goes to the first who asks, the second to the second, as far as both go
 unfoldable pub paired : List Sent → List ℕ → List Meeting
 paired [] qs = []
@@ -418,75 +457,82 @@ module _ (Cpu : Type 0) (fresh : ℕ → Cpu) (act : Cpu → (ℕ → ℕ) → A
   unfoldable pub first_at : World Cpu → ℕ → ℕ
   first_at w o = first_of (row_of (object Cpu fresh act w o))
 
-  -- what is noted of a call, by what comes back
-  unfoldable pub call_noted : Sizes → World Cpu → ℕ → Call → List Note
-  call_noted z w p (cut s k d) = []
-  call_noted z w p (copy s d r b) = []
-  call_noted z w p (move s d) = []
-  call_noted z w p (drop_it s) = []
-  call_noted z w p (revoke s) = []
-  call_noted z w p (send s ws g h) =
-      send_noted (port_at w p s) p (first_at w (port_at w p s)) (slot_badge (slot Cpu fresh act w p s)) (take 4 ws) (does Cpu fresh act z w p (send s ws g h))
-  call_noted z w p (receive s d) = receive_noted (port_at w p s) p (first_at w (port_at w p s)) (does Cpu fresh act z w p (receive s d))
-  call_noted z w p (map s t a) = []
-  call_noted z w p (unmap t a) = []
-  call_noted z w p (bind t s) = []
-  call_noted z w p (go t a) = []
-  call_noted z w p (say s b) = []
-  call_noted z w p (hear s) = []
+  -- what is noted goes by what comes back from the calls. doing says how a call is done: in the laws as in this world; elsewhere it is faulty, and a law has to refuse it
+  module _ (doing : Sizes → World Cpu → ℕ → Call → Went Cpu fresh act) where
+    -- what is noted of a call, by what comes back
+    unfoldable pub call_noted : Sizes → World Cpu → ℕ → Call → List Note
+    call_noted z w p (cut s k d) = []
+    call_noted z w p (copy s d r b) = []
+    call_noted z w p (move s d) = []
+    call_noted z w p (drop_it s) = []
+    call_noted z w p (revoke s) = []
+    call_noted z w p (send s ws g h) =
+        send_noted (port_at w p s) p (first_at w (port_at w p s)) (slot_badge (slot Cpu fresh act w p s)) (take 4 ws) (doing z w p (send s ws g h))
+    call_noted z w p (receive s d) = receive_noted (port_at w p s) p (first_at w (port_at w p s)) (doing z w p (receive s d))
+    call_noted z w p (map s t a) = []
+    call_noted z w p (unmap t a) = []
+    call_noted z w p (bind t s) = []
+    call_noted z w p (go t a) = []
+    call_noted z w p (say s b) = []
+    call_noted z w p (hear s) = []
 
-  -- what is noted of an instruction: of the call, if it is one
-  unfoldable pub act_noted : Sizes → World Cpu → ℕ → Act Cpu → List Note
-  act_noted z w p (quiet c) = []
-  act_noted z w p (store a bs c) = []
-  act_noted z w p (call c then) = call_noted z w p c
-  act_noted z w p wrong = []
+    -- what is noted of an instruction: of the call, if it is one
+    unfoldable pub act_noted : Sizes → World Cpu → ℕ → Act Cpu → List Note
+    act_noted z w p (quiet c) = []
+    act_noted z w p (store a bs c) = []
+    act_noted z w p (call c then) = call_noted z w p c
+    act_noted z w p wrong = []
 
-  -- what is noted of a thread's time: of the call that it makes, if it is ready
-  unfoldable pub tick_noted : Sizes → World Cpu → ℕ → Object Cpu → List Note
-  tick_noted z w p gone = []
-  tick_noted z w p (pool f n u) = []
-  tick_noted z w p (table f ss) = []
-  tick_noted z w p (port f ws) = []
-  tick_noted z w p (page f bs) = []
-  tick_noted z w p (thread f stopped c t ps rs) = []
-  tick_noted z w p (thread f ready c t ps rs) = act_noted z w p (act c (seen Cpu fresh act z w ps))
-  tick_noted z w p (thread f (waits o then) c t ps rs) = []
-  tick_noted z w p (line xs ys) = []
+    -- what is noted of a thread's time: of the call that it makes, if it is ready
+    unfoldable pub tick_noted : Sizes → World Cpu → ℕ → Object Cpu → List Note
+    tick_noted z w p gone = []
+    tick_noted z w p (pool f n u) = []
+    tick_noted z w p (table f ss) = []
+    tick_noted z w p (port f ws) = []
+    tick_noted z w p (page f bs) = []
+    tick_noted z w p (thread f stopped c t ps rs) = []
+    tick_noted z w p (thread f ready c t ps rs) = act_noted z w p (act c (seen Cpu fresh act z w ps))
+    tick_noted z w p (thread f (waits o then) c t ps rs) = []
+    tick_noted z w p (line xs ys) = []
 
-  -- what is noted of an event
-  unfoldable pub event_noted : Sizes → World Cpu → Event → List Note
-  event_noted z w (tick p) = tick_noted z w p (object Cpu fresh act w p)
-  event_noted z w (byte o b) = []
+    -- what is noted of an event
+    unfoldable pub event_noted : Sizes → World Cpu → Event → List Note
+    event_noted z w (tick p) = tick_noted z w p (object Cpu fresh act w p)
+    event_noted z w (byte o b) = []
 
-  -- what is noted of a row of events
-  unfoldable pub log : Sizes → World Cpu → List Event → List Note
-  log z w [] = []
-  log z w (e ∷ es) = event_noted z w e ++ log z (event Cpu fresh act z w e) es
+    -- what is noted of a row of events. happening says what an event does
+    unfoldable pub log : (Sizes → World Cpu → Event → World Cpu) → Sizes → World Cpu → List Event → List Note
+    log happening z w [] = []
+    log happening z w (e ∷ es) = event_noted z w e ++ log happening z (happening z w e) es
 
   -- the first who came to send at a port met the first who came to receive there, the second the second, and so on; each got what was sent
-  unfoldable pub FirstCome : Type 0
-  FirstCome =
+  unfoldable pub FirstComeIn : (Sizes → World Cpu → ℕ → Call → Went Cpu fresh act) → (Sizes → World Cpu → Event → World Cpu) → Type 0
+  FirstComeIn doing happening =
       (z : Sizes) (v : World Cpu) (es : List Event) (o : ℕ) → 1 ≤ z.bytes → Parted Cpu fresh act (λ o. true) v → Kinds Cpu fresh act v → Uncut Cpu fresh act v →
-      met_at o (log z v es) ≡ paired (sent_at o (log z v es)) (asked_at o (log z v es))
+      met_at o (log doing happening z v es) ≡ paired (sent_at o (log doing happening z v es)) (asked_at o (log doing happening z v es))
 
-  -- what became of thread t, which waited at port o to go on with then, in an event of which ns was noted and after which the world is w
-  pub data Back (ns : List Note) (w : World Cpu) (t f o : ℕ) (then : List ℕ → Cpu) : Type 0 where
+  unfoldable pub FirstCome : Type 0
+  FirstCome = FirstComeIn (does Cpu fresh act) (event Cpu fresh act)
+
+  -- what became of thread t, which waited in the row of port o to go on with then, in an event of which ns was noted and after which the world is w
+  pub data Back (row : List Wait) (ns : List Note) (w : World Cpu) (t f o : ℕ) (then : List ℕ → Cpu) : Type 0 where
     -- it waits on
-    waits_on : (c : Cpu) (a : ℕ) (ps : List ℕ) (rs : List Bool) → object Cpu fresh act w t ≡ thread f (waits o then) c a ps rs → Back ns w t f o then
-    -- it came to send: one receiver got its badge and words, and it goes on with 0
-    was_heard : (q b a : ℕ) (ws ps : List ℕ) (rs : List Bool) → met_at o ns ≡ got_by (message t b ws) q ∷ [] → object Cpu fresh act w t ≡ thread f ready (then (0 ∷ [])) a ps rs → Back ns w t f o then
+    waits_on : (c : Cpu) (a : ℕ) (ps : List ℕ) (rs : List Bool) → object Cpu fresh act w t ≡ thread f (waits o then) c a ps rs → Back row ns w t f o then
+    -- it came to send: one receiver got the badge and words that it waited with, and it goes on with 0
+    was_heard : (q b a s : ℕ) (h g : Bool) (ws ps : List ℕ) (rs : List Bool) → IsIn (sender t b ws h g s) row → met_at o ns ≡ got_by (message t b ws) q ∷ [] →
+        object Cpu fresh act w t ≡ thread f ready (then (0 ∷ [])) a ps rs → Back row ns w t f o then
     -- it came to receive: it goes on with 0 and the badge and words of one sender
-    was_told : (q b a : ℕ) (ws ps : List ℕ) (rs : List Bool) → met_at o ns ≡ got_by (message q b ws) t ∷ [] → object Cpu fresh act w t ≡ thread f ready (then (0 ∷ b ∷ ws)) a ps rs → Back ns w t f o then
+    was_told : (q b a d : ℕ) (ws ps : List ℕ) (rs : List Bool) → IsIn (receiver t d) row → met_at o ns ≡ got_by (message q b ws) t ∷ [] →
+        object Cpu fresh act w t ≡ thread f ready (then (0 ∷ b ∷ ws)) a ps rs → Back row ns w t f o then
     -- the port is gone: it goes on with no
-    was_ended : (a : ℕ) (ps : List ℕ) (rs : List Bool) → object Cpu fresh act w o ≡ gone → object Cpu fresh act w t ≡ thread f ready (then (no ∷ [])) a ps rs → Back ns w t f o then
+    was_ended : (a : ℕ) (ps : List ℕ) (rs : List Bool) → object Cpu fresh act w o ≡ gone → object Cpu fresh act w t ≡ thread f ready (then (no ∷ [])) a ps rs → Back row ns w t f o then
 
   -- who waited comes back with 0 only by a meeting that is noted, with the words of that meeting; and with no only if the port is gone
   unfoldable pub ComesBack : Type 0
   ComesBack =
       (z : Sizes) (v : World Cpu) (es : List Event) (e : Event) (t f o a : ℕ) (c : Cpu) (ps : List ℕ) (rs : List Bool) (then : List ℕ → Cpu) → 1 ≤ z.bytes → Parted Cpu fresh act (λ o. true) v → Kinds Cpu fresh act v → Uncut Cpu fresh act v →
       object Cpu fresh act (run Cpu fresh act z v es) t ≡ thread f (waits o then) c a ps rs →
-      Back (event_noted z (run Cpu fresh act z v es) e) (event Cpu fresh act z (run Cpu fresh act z v es) e) t f o then
+      Back (row_of (object Cpu fresh act (run Cpu fresh act z v es) o)) (event_noted (does Cpu fresh act) z (run Cpu fresh act z v es) e) (event Cpu fresh act z (run Cpu fresh act z v es) e) t f o then
 
   -- what became of a send of thread p at port o with badge b and words ws, in the event of the call, of which ns was noted and after which the world is w
   pub data SendBack (ns : List Note) (w : World Cpu) (p f o b : ℕ) (ws : List ℕ) (then : List ℕ → Cpu) : Type 0 where
@@ -508,10 +554,10 @@ module _ (Cpu : Type 0) (fresh : ℕ → Cpu) (act : Cpu → (ℕ → ℕ) → A
   AtOnce =
       ((z : Sizes) (w : World Cpu) (p f a s h : ℕ) (g : Bool) (c : Cpu) (ws ps : List ℕ) (rs : List Bool) (then : List ℕ → Cpu) → object Cpu fresh act w p ≡ thread f ready c a ps rs →
       act c (seen Cpu fresh act z w ps) ≡ call (send s ws g h) then →
-      SendBack (event_noted z w (tick p)) (event Cpu fresh act z w (tick p)) p f (port_at w p s) (slot_badge (slot Cpu fresh act w p s)) (take 4 ws) then) ×
+      SendBack (event_noted (does Cpu fresh act) z w (tick p)) (event Cpu fresh act z w (tick p)) p f (port_at w p s) (slot_badge (slot Cpu fresh act w p s)) (take 4 ws) then) ×
       ((z : Sizes) (w : World Cpu) (p f a s d : ℕ) (c : Cpu) (ps : List ℕ) (rs : List Bool) (then : List ℕ → Cpu) → object Cpu fresh act w p ≡ thread f ready c a ps rs →
       act c (seen Cpu fresh act z w ps) ≡ call (receive s d) then →
-      ReceiveBack (event_noted z w (tick p)) (event Cpu fresh act z w (tick p)) p f (port_at w p s) then)
+      ReceiveBack (event_noted (does Cpu fresh act) z w (tick p)) (event Cpu fresh act z w (tick p)) p f (port_at w p s) then)
 
   -- thread t, which waited at port o in world w, goes on in world v with words ws
   unfoldable pub Woken : World Cpu → World Cpu → ℕ → ℕ → List ℕ → Type 0
@@ -531,11 +577,11 @@ module _ (Cpu : Type 0) (fresh : ℕ → Cpu) (act : Cpu → (ℕ → ℕ) → A
     receiver_waited : Replied z w v e t (0 ∷ []) → Woken w v o q (0 ∷ b ∷ ws) → BothGoOn z w v e o t q b ws
 
   -- whoever meets goes on in that very event: if a meeting is noted in it, one of the two waited there and the other made a call, and both go on.
-  -- happening and running say what an event and a row of events do: in the law as in this world, elsewhere they are faulty
-  unfoldable pub MetGoOnIn : (Sizes → World Cpu → Event → World Cpu) → (Sizes → World Cpu → List Event → World Cpu) → Type 0
-  MetGoOnIn happening running =
+  -- doing, happening and running say what a call, an event and a row of events do: in the law as in this world; elsewhere they are faulty, and what is noted goes by them too
+  unfoldable pub MetGoOnIn : (Sizes → World Cpu → ℕ → Call → Went Cpu fresh act) → (Sizes → World Cpu → Event → World Cpu) → (Sizes → World Cpu → List Event → World Cpu) → Type 0
+  MetGoOnIn doing happening running =
       (z : Sizes) (v : World Cpu) (es : List Event) (e : Event) (o t q b : ℕ) (ws : List ℕ) (ns ms : List Note) → 1 ≤ z.bytes → Parted Cpu fresh act (λ o. true) v → Kinds Cpu fresh act v →
-      event_noted z (running z v es) e ≡ ns ++ meets o t q b ws ∷ ms → BothGoOn z (running z v es) (happening z (running z v es) e) e o t q b ws
+      event_noted doing z (running z v es) e ≡ ns ++ meets o t q b ws ∷ ms → BothGoOn z (running z v es) (happening z (running z v es) e) e o t q b ws
 
   unfoldable pub MetGoOn : Type 0
-  MetGoOn = MetGoOnIn (event Cpu fresh act) (run Cpu fresh act)
+  MetGoOn = MetGoOnIn (does Cpu fresh act) (event Cpu fresh act) (run Cpu fresh act)

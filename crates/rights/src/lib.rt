@@ -7,9 +7,11 @@ mod bits;
 mod calls;
 mod kinds;
 mod refusals;
+mod said;
 
 pub use answers::Answer;
 pub use bits::{Rights, UnknownRights};
 pub use calls::{Call, NewObject};
 pub use kinds::{Kind, UnknownKind};
 pub use refusals::Refusal;
+pub use said::Said;

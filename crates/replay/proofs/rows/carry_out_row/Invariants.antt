@@ -1,11 +1,9 @@
-use Rattle.std.proofs.Common.{◌-◌, length}
-use Rattle.image.specs.Rows.{row}
-use Rattle.model.specs.Same.{Ran}
+use Rattle.std.proofs.Common.{◌-◌, length, vec_items}
 use Rattle.replay.proofs.Happening.{Leads}
 use Rattle.replay.proofs.rows.carry_out_row.Given as goal
 
 abbrev pub invariant-loop-at : goal.invariant-loop-at
-invariant-loop-at l = Leads l.events (Ran l.fn.world (row l.events)) l.world l.at
+invariant-loop-at l = Leads l.events l.fn.world (vec_items l.said) l.world l.at
 
 abbrev pub decreases-loop-at : goal.decreases-loop-at
 decreases-loop-at l = length l.events - l.at

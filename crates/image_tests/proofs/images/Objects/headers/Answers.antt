@@ -1,6 +1,6 @@
 use Rattle.std.proofs.Common.{◌≡◌, ℕ, zero, suc, List, ◌++◌, sym, ap, ◌∙◌, append-nil, append_assoc, add-one, arith}
 use Rattle.std.specs.List.{repeat}
-use Rattle.image_tests.specs.Written.{header}
+use Rattle.image_builder.specs.Written.{header}
 use Rattle.image_tests.proofs.images.Objects.headers.Goals as goal
 
 -- one more behind is one more in front

@@ -1,6 +1,6 @@
-// Images, written field by field, low bytes first.
+// An image, written field by field, low bytes first.
 ghost use Rattle.std.specs.Prelude.{◌≡◌, ◌++◌, ◌∷◌, [], List, ℕ, OnOk};
-ghost use Rattle.image_tests.specs.Written as written;
+ghost use Rattle.image_builder.specs.Written as written;
 
 use rights::Kind;
 use std::alloc::{AllocError, Global};
@@ -34,7 +34,8 @@ impl ImageBuilder {
         self.bytes
     }
 
-    fn write(&mut self, bytes: &[u8]) -> Result<(), AllocError>
+    // Some bytes as they are.
+    pub fn write(&mut self, bytes: &[u8]) -> Result<(), AllocError>
         ensures { OnOk result (self.new ≡ self.old ++ bytes.now) }
     {
         self.bytes.extend_from_slice(bytes)
@@ -73,33 +74,34 @@ impl ImageBuilder {
         self.write(&badge.to_le_bytes())
     }
 
-    // A page with its first and its last byte.
-    pub fn page(&mut self, first: u8, last: u8) -> Result<(), AllocError>
-        ensures { OnOk result (self.new ≡ self.old ++ written.page first last) }
+    // A page that begins with some bytes, and is 0 from there on.
+    pub fn page(&mut self, bytes: &[u8]) -> Result<(), AllocError>
+        ensures { OnOk result (self.new ≡ self.old ++ written.page bytes.now) }
     {
-        self.write(&[first])?;
-        self.zeros(4094)?;
-        self.write(&[last])
+        self.write(bytes)?;
+        self.zeros(4096usize.saturating_sub(bytes.len()))
     }
 
     // One page of a space, with the number of a page plus 1, or 0.
-    fn mapping(&mut self, page: u16, mark: u8) -> Result<(), AllocError>
+    pub fn mapping(&mut self, page: u16, mark: u8) -> Result<(), AllocError>
         ensures { OnOk result (self.new ≡ self.old ++ written.mapping page mark) }
     {
         self.write(&page.to_le_bytes())?;
         self.write(&[mark])
     }
 
-    // A thread that is ready, with a page at the first and the last place of its space; the 62
-    // places between are free.
-    pub fn thread(&mut self, table: u16, page: u16, pc: u32) -> Result<(), AllocError>
-        ensures { OnOk result (self.new ≡ self.old ++ written.thread table page pc) }
+    // Where a thread begins: its table's number plus 1, or 0.
+    pub fn table(&mut self, table: u16) -> Result<(), AllocError>
+        ensures { OnOk result (self.new ≡ self.old ++ written.table table) }
     {
-        self.write(&table.to_le_bytes())?;
-        self.mapping(page, 1)?;
-        self.zeros(3 * 62)?;
-        self.mapping(page, 0)?;
-        self.write(&[1])?;
+        self.write(&table.to_le_bytes())
+    }
+
+    // Where it ends, after 64 pages of its space: 1 if it is ready, and its pc.
+    pub fn begins(&mut self, ready: u8, pc: u32) -> Result<(), AllocError>
+        ensures { OnOk result (self.new ≡ self.old ++ written.begins ready pc) }
+    {
+        self.write(&[ready])?;
         self.write(&pc.to_le_bytes())
     }
 }

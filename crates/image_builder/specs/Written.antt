@@ -1,5 +1,5 @@
--- The bytes of the images that the tests start from, field by field, low bytes first. Assumes nothing: these are definitions.
-use Rattle.std.specs.Prelude.{ℕ, List, [], ◌∷◌, ◌++◌, replicate, codes}
+-- The bytes of an image, field by field, low bytes first. Assumes nothing: these are definitions.
+use Rattle.std.specs.Prelude.{ℕ, ◌-◌, List, [], ◌∷◌, ◌++◌, length, replicate, codes}
 use Rattle.std.specs.Int.{w16, w32, to_le_bytes}
 use Rattle.rights.specs.declared.kinds.Kind.{Kind}
 use Rattle.rights.specs.Vocabulary.{kind_number}
@@ -20,14 +20,17 @@ header kind size = kind_number kind ∷ to_le_bytes w16 size
 abbrev pub slot : ℕ → ℕ → ℕ → List ℕ
 slot object rights badge = to_le_bytes w16 object ++ (rights ∷ to_le_bytes w32 badge)
 
--- a page, with its first and its last byte
-abbrev pub page : ℕ → ℕ → List ℕ
-page first last = (first ∷ zeros 4094) ++ (last ∷ [])
+-- a page that begins with some bytes
+abbrev pub page : List ℕ → List ℕ
+page bytes = bytes ++ zeros (4096 - length bytes)
 
 -- a page of a space: page + 1, mark
 abbrev pub mapping : ℕ → ℕ → List ℕ
 mapping page mark = to_le_bytes w16 page ++ (mark ∷ [])
 
--- a thread: table + 1, a page at the first and the last place of its space, ready, pc
-abbrev pub thread : ℕ → ℕ → ℕ → List ℕ
-thread table page pc = to_le_bytes w16 table ++ (mapping page 1 ++ (zeros 186 ++ (mapping page 0 ++ (1 ∷ to_le_bytes w32 pc))))
+-- a thread begins with its table + 1, and ends, after the pages of its space, with its ready mark and its pc
+abbrev pub table : ℕ → List ℕ
+table number = to_le_bytes w16 number
+
+abbrev pub begins : ℕ → ℕ → List ℕ
+begins ready pc = ready ∷ to_le_bytes w32 pc

@@ -1,0 +1,6 @@
+// Images, written field by field, for tests.
+#![tactic(auto)]
+
+mod builder;
+
+pub use builder::ImageBuilder;

@@ -1,0 +1,7 @@
+use Rattle.std.proofs.Common.{append_assoc, add-one, arith}
+use Rattle.image_builder.specs.Written.{header}
+use Rattle.replay_tests.proofs.Again.{repeat_more}
+use Rattle.replay_tests.proofs.setting.same.Goals as goal
+
+pub loop-preserved : goal.loop-preserved
+loop-preserved c = grind (arith, append_assoc, add-one, repeat_more c.loop.counter (header c.args.kind 0))
