@@ -1,0 +1,5 @@
+pub mod Turned
+pub mod Through
+pub mod Spaces
+pub mod Stored
+pub mod Waits

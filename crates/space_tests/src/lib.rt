@@ -1,0 +1,5 @@
+// Tests of spaces and lines, as they run.
+#![tactic(auto)]
+
+#[cfg(test)]
+mod spaces;
