@@ -1,0 +1,2 @@
+mod Each
+mod Done
