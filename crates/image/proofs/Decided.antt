@@ -15,6 +15,15 @@ use Rattle.image.specs.Verdict.{verdict}
 use Rattle.image.proofs.Told.{Told, Halt, longer, told_then, told_past, told_test, told_ok}
 use Rattle.image.proofs.Early.{same_two, headers_told, body_told}
 
+-- readers one after the other, grouped otherwise
+pub then_assoc : {A B C : Type 0} (r : Read A) (f : A → Read B) (g : B → Read C) → (r then f) then g ≡ r then (λ x. f x then g)
+then_assoc (Ok x) f g = refl
+then_assoc (Err e) f g = refl
+
+pub then_cong : {A B : Type 0} (r : Read A) (f g : A → Read B) → ((x : A) → f x ≡ g x) → r then f ≡ r then g
+then_cong (Ok x) f g h = h x
+then_cong (Err e) f g h = refl
+
 -- the number of objects
 pub count_back : (bs : List ℕ) (n : ℕ) → count bs ≡ Ok n → (n ≡ two bs 4) × (n ≤ 1000)
 count_back bs n e = grind (arith, nat_tests)

@@ -17,15 +17,15 @@ use Rattle.image.specs.Fields.{Read, each}
 use Rattle.image.specs.Layout.{begins, takes, filled}
 use Rattle.image.specs.Events.{event, events_from}
 
-goes_on : {A : Type 0} (f : ℕ → A → Read A) (n i : ℕ) (a b : A) → i < n → Ok b ≡ f i a → each f (n - i) i a ≡ each f (n - (i + 1)) (i + 1) b
+pub goes_on : {A : Type 0} (f : ℕ → A → Read A) (n i : ℕ) (a b : A) → i < n → Ok b ≡ f i a → each f (n - i) i a ≡ each f (n - (i + 1)) (i + 1) b
 unfolding each
 goes_on f n i a b l e = let k : n - i ≡ suc (n - (i + 1)) = omega arith in rw (k, ← e, add-one)
 
-stops : {A : Type 0} (f : ℕ → A → Read A) (n i : ℕ) (a : A) (e : Refusal) → i < n → Err e ≡ f i a → each f (n - i) i a ≡ Err e
+pub stops : {A : Type 0} (f : ℕ → A → Read A) (n i : ℕ) (a : A) (e : Refusal) → i < n → Err e ≡ f i a → each f (n - i) i a ≡ Err e
 unfolding each
 stops f n i a e l h = let k : n - i ≡ suc (n - (i + 1)) = omega arith in rw (k, ← h)
 
-ends : {A : Type 0} (f : ℕ → A → Read A) (n i : ℕ) (a : A) → n ≤ i → each f (n - i) i a ≡ Ok a
+pub ends : {A : Type 0} (f : ℕ → A → Read A) (n i : ℕ) (a : A) → n ≤ i → each f (n - i) i a ≡ Ok a
 unfolding each
 ends f n i a l = let e : n - i ≡ 0 = omega arith in rw e
 

@@ -16,14 +16,21 @@ pub fn one(bytes: &[u8], at: usize) -> u8
 pub fn two(bytes: &[u8], at: usize) -> u16
     ensures { result ≡ fields.two bytes.now at }
 {
-    u16::from_le_bytes([one(bytes, at), one(bytes, at.saturating_add(1))])
+    let Some(low) = bytes.get(at) else {
+        return 0;
+    };
+    u16::from_le_bytes([*low, one(bytes, at + 1)])
 }
 
 // The place after the `n` bytes at `at`, if they are there.
 pub fn end_of(bytes: &[u8], at: usize, n: usize) -> Option<usize>
     ensures { result ≡ fields.end_of bytes.now at n }
 {
-    at.checked_add(n).filter(|end| *end <= bytes.len())
+    let last = bytes.len().checked_sub(n)?;
+    if at > last {
+        return None;
+    }
+    Some(at + n)
 }
 
 // The same, where they have to be there.

@@ -30,7 +30,7 @@ pub fn head_at(o: u16) -> usize
 pub fn is_a(image: &[u8], o: u16, kind: Kind) -> bool
     ensures { result ≡ format.is_a image.now o kind }
 {
-    kind_of(image, o) == Ok(kind)
+    one(image, head_at(o)) == u8::from(kind)
 }
 
 // The kind of object `o`, by its header.

@@ -58,13 +58,23 @@ impl EventKind {
 }
 
 impl Image<'_> {
-    // The place after the event at `at`, if it is there whole and names an object of the image.
+    // The place after an event of a kind at `at`, if it is there whole and names an object of the image.
+    fn end_by_kind(&self, events: &[u8], at: usize, kind: EventKind) -> Option<usize>
+        ensures { ok_or result (Event at) ≡ rows.event_of self.now.bytes.now self.now.objects events.now at (rows.width kind) (rows.named kind) }
+    {
+        let end = end_of(events, at, kind.width())?;
+        self.has(two(events, at + 1), kind.named()).then_some(end)
+    }
+
+    // The same by the event's own kind. Each kind has a call of its own, so that its width is a constant
+    // in it: a row takes twice the time where the kind is passed on.
     fn event_end(&self, events: &[u8], at: usize) -> Option<usize>
         ensures { ok_or result (Event at) ≡ rows.event self.now.bytes.now self.now.objects events.now at }
     {
-        let kind = EventKind::try_from(one(events, at)).ok()?;
-        let end = end_of(events, at, kind.width())?;
-        self.has(two(events, at + 1), kind.named()).then_some(end)
+        match EventKind::try_from(one(events, at)).ok()? {
+            EventKind::Tick => self.end_by_kind(events, at, EventKind::Tick),
+            EventKind::Byte => self.end_by_kind(events, at, EventKind::Byte),
+        }
     }
 
     // The place after the event at `at`, which has to be right.
