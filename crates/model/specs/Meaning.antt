@@ -71,4 +71,4 @@ went_of (p.wait v o) = w.wait (world_of v) o
 
 -- the program's world
 abbrev pub meant : World → w.World Cpu
-meant v = world_of v
+meant v = world_of (p.plain v)

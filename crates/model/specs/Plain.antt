@@ -1,6 +1,6 @@
 -- The world in the code's own parts: slots, threads, those who wait and answers are the code's types, and what holds many has a list.
 -- Assumes nothing: these are definitions.
-use Rattle.std.specs.Prelude.{◌≡◌, ℕ, Bool, false, ◌&&◌, ltb, List, length, Some, None, vec_items, Option, Result, Ok, Err, IfOk, IsErrOf, slice_index_or, slice_set}
+use Rattle.std.specs.Prelude.{◌≡◌, ℕ, Bool, false, ◌&&◌, ltb, List, map, length, Some, None, vec_items, Option, Result, Ok, Err, IfOk, IsErrOf, slice_index_or, slice_set}
 use Rattle.std.specs.Option.{is_none}
 use Rattle.rights.specs.declared.answers.Answer.{Answer}
 use Rattle.rights.specs.declared.answers.Answer.TheVariants.{No, Done, Heard}
@@ -14,6 +14,7 @@ use Rattle.model.specs.declared.objects.Thread.{Thread}
 use Rattle.model.specs.declared.objects.Wait.{Wait}
 use Rattle.model.specs.declared.objects.Object.{Object}
 use Rattle.model.specs.declared.objects.Object.TheVariants as o
+use Rattle.model.specs.declared.objects.World.{World}
 use Rattle.model.specs.declared.ends.Refused.{Refused}
 
 -- objects
@@ -41,6 +42,9 @@ thing (o.Port f q) = port f q.items
 thing (o.Page f bs) = page f (vec_items bs)
 thing (o.Thread t) = thread t
 thing (o.Line a b) = line (vec_items a) b.items
+
+abbrev pub plain : World → Whole
+plain v = record { things = map thing (vec_items v.objects); births = v.births; lineage = vec_items v.lineage }
 
 abbrev pub found : Option Object → Thing
 found None = gone

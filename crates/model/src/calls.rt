@@ -27,28 +27,28 @@ fn copied(c: Capability, rights: Rights, badge: u32, birth: u64) -> Capability
 impl World {
     // What slot `s` of thread `p` holds.
     pub fn held(&self, p: usize, s: u32) -> Result<Capability, Refused>
-        ensures { result_ok result ≡ plain.slot self.now p s }
+        ensures { result_ok result ≡ plain.slot (plain.plain self.now) p s }
     {
         self.slot(p, s).ok_or(Refused)
     }
 
     // The same, if its rights say reads.
     pub fn readable(&self, p: usize, s: u32) -> Result<Capability, Refused>
-        ensures { result_ok result ≡ calls.readable self.now p s }
+        ensures { result_ok result ≡ calls.readable (plain.plain self.now) p s }
     {
         self.slot(p, s).filter(|c| c.rights.reads()).ok_or(Refused)
     }
 
     // The same, if its rights say writes.
     pub fn writable(&self, p: usize, s: u32) -> Result<Capability, Refused>
-        ensures { result_ok result ≡ calls.writable self.now p s }
+        ensures { result_ok result ≡ calls.writable (plain.plain self.now) p s }
     {
         self.slot(p, s).filter(|c| c.rights.writes()).ok_or(Refused)
     }
 
     // Nothing is done where there is no such slot.
     pub fn put_slot(&mut self, p: usize, s: u32, x: Option<Capability>)
-        ensures { self.new ≡ plain.with_slot self.old p s x }
+        ensures { plain.plain self.new ≡ plain.with_slot (plain.plain self.old) p s x }
     {
         let Some(t) = self.table_of(p) else {
             return;
@@ -66,7 +66,7 @@ impl World {
 
     // One more capability was made.
     pub fn bear(&mut self, child: Capability) -> Result<(), Fault>
-        ensures { OnOk result (self.new ≡ calls.born self.old child) }
+        ensures { OnOk result (plain.plain self.new ≡ calls.born (plain.plain self.old) child) }
     {
         self.births = self.next_birth()?;
         self.lineage.push(child)?;
@@ -81,7 +81,7 @@ impl World {
         rights: Rights,
         badge: u32,
     ) -> Result<(), CallError>
-        ensures { plain.Comes result (λ _. plain.on self.new Done) (plain.on self.new No) (calls.copy self.old p s d rights badge) }
+        ensures { plain.Comes result (λ _. plain.on (plain.plain self.new) Done) (plain.on (plain.plain self.new) No) (calls.copy (plain.plain self.old) p s d rights badge) }
     {
         let c = self.held(p, s)?;
         if !c.rights.hands_on() || !self.is_free(p, d) {
@@ -94,7 +94,7 @@ impl World {
     }
 
     pub fn shift(&mut self, p: usize, s: u32, d: u32) -> Result<(), Refused>
-        ensures { plain.on self.new (plain.done_or_no result) ≡ calls.move self.old p s d }
+        ensures { plain.on (plain.plain self.new) (plain.done_or_no result) ≡ calls.move (plain.plain self.old) p s d }
     {
         let c = self.held(p, s)?;
         if !self.is_free(p, d) {
@@ -106,7 +106,7 @@ impl World {
     }
 
     pub fn let_go(&mut self, p: usize, s: u32) -> Result<(), Refused>
-        ensures { plain.on self.new (plain.done_or_no result) ≡ calls.drop_it self.old p s }
+        ensures { plain.on (plain.plain self.new) (plain.done_or_no result) ≡ calls.drop_it (plain.plain self.old) p s }
     {
         self.held(p, s)?;
         self.put_slot(p, s, None);
@@ -114,28 +114,28 @@ impl World {
     }
 
     pub fn say(&mut self, p: usize, s: u32, b: u32) -> Result<(), CallError>
-        ensures { plain.Comes result (λ _. plain.on self.new Done) (plain.on self.new No) (calls.say self.old p s b) }
+        ensures { plain.Comes result (λ _. plain.on (plain.plain self.new) Done) (plain.on (plain.plain self.new) No) (calls.say (plain.plain self.old) p s b) }
     {
         let line = self.writable(p, s)?.object;
         self.get_mut(line).ok_or(Refused)?.say((b % 256) as u8)
     }
 
     pub fn hear(&mut self, p: usize, s: u32) -> Result<u8, Refused>
-        ensures { plain.on self.new (plain.heard_or_no result) ≡ calls.hear self.old p s }
+        ensures { plain.on (plain.plain self.new) (plain.heard_or_no result) ≡ calls.hear (plain.plain self.old) p s }
     {
         let line = self.readable(p, s)?.object;
         self.get_mut(line).ok_or(Refused)?.hear()
     }
 
     pub fn go(&mut self, p: usize, t: u32, pc: u32) -> Result<(), Refused>
-        ensures { plain.on self.new (plain.done_or_no result) ≡ calls.go self.old p t pc }
+        ensures { plain.on (plain.plain self.new) (plain.done_or_no result) ≡ calls.go (plain.plain self.old) p t pc }
     {
         let thread = self.writable(p, t)?.object;
         self.get_mut(thread).ok_or(Refused)?.go(pc)
     }
 
     pub fn bind(&mut self, p: usize, t: u32, s: u32) -> Result<(), Refused>
-        ensures { plain.on self.new (plain.done_or_no result) ≡ calls.bind self.old p t s }
+        ensures { plain.on (plain.plain self.new) (plain.done_or_no result) ≡ calls.bind (plain.plain self.old) p t s }
     {
         let table = self.writable(p, s)?.object;
         let thread = self.writable(p, t)?.object;
@@ -146,7 +146,7 @@ impl World {
     }
 
     pub fn map(&mut self, p: usize, s: u32, t: u32, place: u32) -> Result<(), Refused>
-        ensures { plain.on self.new (plain.done_or_no result) ≡ calls.map self.old p s t place }
+        ensures { plain.on (plain.plain self.new) (plain.done_or_no result) ≡ calls.map (plain.plain self.old) p s t place }
     {
         let page = self.readable(p, s)?;
         let thread = self.writable(p, t)?.object;
@@ -159,7 +159,7 @@ impl World {
     }
 
     pub fn unmap(&mut self, p: usize, t: u32, place: u32) -> Result<(), Refused>
-        ensures { plain.on self.new (plain.done_or_no result) ≡ calls.unmap self.old p t place }
+        ensures { plain.on (plain.plain self.new) (plain.done_or_no result) ≡ calls.unmap (plain.plain self.old) p t place }
     {
         let thread = self.writable(p, t)?.object;
         self.get_mut(thread).ok_or(Refused)?.unmap(place)

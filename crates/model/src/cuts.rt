@@ -121,7 +121,7 @@ impl Object {
 impl World {
     // One object more.
     pub fn add(&mut self, it: Object) -> Result<(), Fault>
-        ensures { OnOk result (self.new ≡ calls.grown self.old (plain.thing it)) }
+        ensures { OnOk result (plain.plain self.new ≡ calls.grown (plain.plain self.old) (plain.thing it)) }
     {
         self.objects.push(it)?;
         Ok(())
@@ -129,7 +129,7 @@ impl World {
 
     // The capability to the next object that is made.
     fn newborn(&self, mother: u64) -> Result<Capability, Fault>
-        ensures { IfOk result (λ x. x ≡ calls.newborn self.now mother) }
+        ensures { IfOk result (λ x. x ≡ calls.newborn (plain.plain self.now) mother) }
     {
         Ok(Capability {
             object: self.objects.len(),
@@ -148,7 +148,7 @@ impl World {
         what: NewObject,
         d: u32,
     ) -> Result<(), CallError>
-        ensures { plain.Comes result (λ _. plain.on self.new Done) (plain.on self.new No) (cuts.cut_at self.old p o mother what d) }
+        ensures { plain.Comes result (λ _. plain.on (plain.plain self.new) Done) (plain.on (plain.plain self.new) No) (cuts.cut_at (plain.plain self.old) p o mother what d) }
     {
         let after = self.get(o).and_then(|it| it.room(what)).ok_or(Refused)?;
         let child = self.newborn(mother)?;
@@ -163,7 +163,7 @@ impl World {
     }
 
     pub fn cut(&mut self, p: usize, s: u32, what: NewObject, d: u32) -> Result<(), CallError>
-        ensures { plain.Comes result (λ _. plain.on self.new Done) (plain.on self.new No) (cuts.cut self.old p s what d) }
+        ensures { plain.Comes result (λ _. plain.on (plain.plain self.new) Done) (plain.on (plain.plain self.new) No) (cuts.cut (plain.plain self.old) p s what d) }
     {
         let c = self.writable(p, s)?;
         if !self.is_free(p, d) {

@@ -70,14 +70,14 @@ impl Object {
 impl World {
     // A reader by number; `get` says why.
     pub fn cpu(&self, p: usize) -> Cpu
-        ensures { result ≡ turns.cpu_of (plain.object self.now p) }
+        ensures { result ≡ turns.cpu_of (plain.object (plain.plain self.now) p) }
     {
         self.get(p).map_or(Cpu::fresh(0), Object::cpu)
     }
 
     // A writer by number; `get_mut` says why.
     pub fn set_thread(&mut self, p: usize, state: State, cpu: Cpu)
-        ensures { self.new ≡ turns.with_thread self.old p state cpu }
+        ensures { plain.plain self.new ≡ turns.with_thread (plain.plain self.old) p state cpu }
     {
         if let Some(it) = self.get_mut(p) {
             it.set_state(state, cpu);
@@ -86,14 +86,14 @@ impl World {
 
     // A reader by number; `get` says why.
     pub fn may_store(&self, p: usize, address: u32, size: u32) -> Option<usize>
-        ensures { result ≡ turns.may_store (plain.object self.now p) address size }
+        ensures { result ≡ turns.may_store (plain.object (plain.plain self.now) p) address size }
     {
         self.get(p)?.may_store(address, size)
     }
 
     // What a call of thread `p` does, or why it does nothing.
     fn attempt(&mut self, p: usize, call: Call) -> Result<Outcome, CallError>
-        ensures { plain.Comes result (plain.ended self.new) (plain.on self.new No) (turns.does self.old p call) }
+        ensures { plain.Comes result (plain.ended (plain.plain self.new)) (plain.on (plain.plain self.new) No) (turns.does (plain.plain self.old) p call) }
     {
         match call {
             Call::Send {
@@ -131,7 +131,7 @@ impl World {
 
     // What a call of thread `p` does. One that is refused has the answer no.
     pub fn call(&mut self, p: usize, call: Call) -> Result<Outcome, Fault>
-        ensures { IfOk result (λ e. plain.ended self.new e ≡ turns.does self.old p call) }
+        ensures { IfOk result (λ e. plain.ended (plain.plain self.new) e ≡ turns.does (plain.plain self.old) p call) }
     {
         match self.attempt(p, call) {
             Ok(outcome) => Ok(outcome),
@@ -142,7 +142,7 @@ impl World {
 
     // What thread `p` does next, if it is ready.
     pub fn next_step(&self, p: usize) -> Option<Step>
-        ensures { turns.told_of (plain.object self.now p) result ≡ turns.next_act self.now (plain.object self.now p) }
+        ensures { turns.told_of (plain.object (plain.plain self.now) p) result ≡ turns.next_act (plain.plain self.now) (plain.object (plain.plain self.now) p) }
     {
         let Some(Object::Thread(t)) = self.get(p) else {
             return None;
@@ -158,13 +158,13 @@ impl World {
     }
 
     fn stop(&mut self, p: usize)
-        ensures { self.new ≡ turns.with_thread self.old p State.Stopped (registers.fresh 0) }
+        ensures { plain.plain self.new ≡ turns.with_thread (plain.plain self.old) p State.Stopped (registers.fresh 0) }
     {
         self.set_thread(p, State::Stopped, Cpu::fresh(0));
     }
 
     fn store(&mut self, p: usize, address: u32, width: Width, value: u32)
-        ensures { self.new ≡ turns.carried self.old p (Step.Store address width value) }
+        ensures { plain.plain self.new ≡ turns.carried (plain.plain self.old) p (Step.Store address width value) }
     {
         let Some(o) = self.may_store(p, address, width.size()) else {
             self.stop(p);
@@ -179,7 +179,7 @@ impl World {
     }
 
     fn call_and_go_on(&mut self, p: usize, call: Call) -> Result<(), Fault>
-        ensures { OnOk result (self.new ≡ turns.carried self.old p (Step.Call call)) }
+        ensures { OnOk result (plain.plain self.new ≡ turns.carried (plain.plain self.old) p (Step.Call call)) }
     {
         let mut cpu = self.cpu(p);
         match self.call(p, call)? {
@@ -194,7 +194,7 @@ impl World {
 
     // Carries out a step of thread `p`.
     pub fn carry_out(&mut self, p: usize, step: Step) -> Result<(), Fault>
-        ensures { OnOk result (self.new ≡ turns.carried self.old p step) }
+        ensures { OnOk result (plain.plain self.new ≡ turns.carried (plain.plain self.old) p step) }
     {
         match step {
             Step::Next {
@@ -219,8 +219,8 @@ impl World {
 
     // One instruction's time for thread `p`, and the byte that it says in it; nothing if it is not ready.
     pub fn tick(&mut self, p: usize) -> Result<Option<Said>, Fault>
-        ensures ticked { IfOk result (λ _. turns.Ticked self.old p self.new) }
-        ensures said { IfOk result (λ said. said ≡ event_says Cpu registers.fresh core.act sizes (world_of self.old) (tick p)) }
+        ensures ticked { IfOk result (λ _. turns.Ticked (plain.plain self.old) p (plain.plain self.new)) }
+        ensures said { IfOk result (λ said. said ≡ event_says Cpu registers.fresh core.act sizes (world_of (plain.plain self.old)) (tick p)) }
     {
         let Some(step) = self.next_step(p) else {
             return Ok(None);

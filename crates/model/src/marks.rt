@@ -113,14 +113,14 @@ fn cuts_of(heap: Global, o: usize, objects: &[Object]) -> Result<Vec<bool>, Faul
 impl World {
     // The last birth before the first of the lineage.
     pub fn base(&self) -> u64
-        ensures { result ≡ sweeps.base_of self.now }
+        ensures { result ≡ sweeps.base_of (plain.plain self.now) }
     {
         self.births.saturating_sub(self.lineage.len() as u64)
     }
 
     // What was made from the root, and from those.
     pub fn birth_marks(&self, root: u64) -> Result<Vec<bool>, Fault>
-        ensures { IfOk result (λ v. v.items ≡ sweeps.marks self.now root) }
+        ensures { IfOk result (λ v. v.items ≡ sweeps.marks (plain.plain self.now) root) }
     {
         let heap = *self.lineage.allocator();
         let base = self.base();
@@ -133,7 +133,7 @@ impl World {
 
     // What was cut from pool `o`, and from pools among those; nothing of what is no pool.
     pub fn cut_marks(&self, o: usize) -> Result<Vec<bool>, Fault>
-        ensures { IfOk result (λ v. v.items ≡ sweeps.cut_marks self.now o) }
+        ensures { IfOk result (λ v. v.items ≡ sweeps.cut_marks (plain.plain self.now) o) }
     {
         let heap = *self.objects.allocator();
         let Some(Object::Pool { .. }) = self.get(o) else {
@@ -144,7 +144,7 @@ impl World {
 
     // What a revoke of a capability takes.
     pub fn marks_for(&self, c: Capability) -> Result<Marks, Fault>
-        ensures { IfOk result (λ k. k ≡ sweeps.marks_for self.now c) }
+        ensures { IfOk result (λ k. k ≡ sweeps.marks_for (plain.plain self.now) c) }
     {
         let births = self.birth_marks(c.birth)?;
         let objects = self.cut_marks(c.object)?;

@@ -88,7 +88,7 @@ impl Object {
 impl World {
     // A reader by number; `get` says why.
     pub fn first(&self, o: usize) -> Result<Option<Wait>, Refused>
-        ensures { result_ok result ≡ calls.first (plain.object self.now o) }
+        ensures { result_ok result ≡ calls.first (plain.object (plain.plain self.now) o) }
     {
         self.get(o).ok_or(Refused)?.first()
     }
@@ -96,7 +96,7 @@ impl World {
     // One more waits at a port.
     // A writer by number; `get_mut` says why.
     pub fn wait_at(&mut self, o: usize, who: Wait) -> Result<Outcome, Fault>
-        ensures { IfOk result (λ e. plain.ended self.new e ≡ calls.waiting self.old o who) }
+        ensures { IfOk result (λ e. plain.ended (plain.plain self.new) e ≡ calls.waiting (plain.plain self.old) o who) }
     {
         if let Some(it) = self.get_mut(o) {
             it.join(who)?;
@@ -106,7 +106,7 @@ impl World {
 
     // A writer by number; `get_mut` says why.
     pub fn serve(&mut self, o: usize)
-        ensures { self.new ≡ plain.with_object self.old o (calls.served (plain.object self.old o)) }
+        ensures { plain.plain self.new ≡ plain.with_object (plain.plain self.old) o (calls.served (plain.object (plain.plain self.old) o)) }
     {
         if let Some(it) = self.get_mut(o) {
             it.serve();
@@ -115,7 +115,7 @@ impl World {
 
     // A writer by number; `get_mut` says why.
     pub fn resume(&mut self, t: usize, answer: Answer)
-        ensures { self.new ≡ calls.resumed self.old t answer }
+        ensures { plain.plain self.new ≡ calls.resumed (plain.plain self.old) t answer }
     {
         if let Some(it) = self.get_mut(t) {
             it.resume(answer);
@@ -125,7 +125,7 @@ impl World {
     // What is in slot `s` of thread `p` goes to slot `d` of thread `q`, if it may, there is something
     // and `d` is there and empty.
     pub fn hand(&mut self, may: bool, p: usize, s: u32, q: usize, d: u32)
-        ensures { self.new ≡ calls.handed self.old may p s q d }
+        ensures { plain.plain self.new ≡ calls.handed (plain.plain self.old) may p s q d }
     {
         let it = self.slot(p, s);
         if may && it.is_some() && self.is_free(q, d) {
@@ -135,7 +135,7 @@ impl World {
     }
 
     pub fn send_at(&mut self, o: usize, letter: Letter) -> Result<Outcome, CallError>
-        ensures comes { plain.Comes result (plain.ended self.new) (plain.on self.new No) (calls.send_at self.old o letter) }
+        ensures comes { plain.Comes result (plain.ended (plain.plain self.new)) (plain.on (plain.plain self.new) No) (calls.send_at (plain.plain self.old) o letter) }
         ensures pinned { result ≢ Ok (Answered No) }
     {
         match self.first(o)? {
@@ -162,7 +162,7 @@ impl World {
         slot: u32,
         words: [u32; 4],
     ) -> Result<Outcome, CallError>
-        ensures comes { plain.Comes result (plain.ended self.new) (plain.on self.new No) (calls.send self.old p s slot words) }
+        ensures comes { plain.Comes result (plain.ended (plain.plain self.new)) (plain.on (plain.plain self.new) No) (calls.send (plain.plain self.old) p s slot words) }
         ensures pinned { result ≢ Ok (Answered No) }
     {
         let c = self.writable(p, s)?;
@@ -177,7 +177,7 @@ impl World {
     }
 
     pub fn receive_at(&mut self, p: usize, o: usize, d: u32) -> Result<Outcome, CallError>
-        ensures comes { plain.Comes result (plain.ended self.new) (plain.on self.new No) (calls.receive_at self.old p o d) }
+        ensures comes { plain.Comes result (plain.ended (plain.plain self.new)) (plain.on (plain.plain self.new) No) (calls.receive_at (plain.plain self.old) p o d) }
         ensures pinned { result ≢ Ok (Answered No) }
     {
         match self.first(o)? {
@@ -192,7 +192,7 @@ impl World {
     }
 
     pub fn receive(&mut self, p: usize, s: u32, d: u32) -> Result<Outcome, CallError>
-        ensures comes { plain.Comes result (plain.ended self.new) (plain.on self.new No) (calls.receive self.old p s d) }
+        ensures comes { plain.Comes result (plain.ended (plain.plain self.new)) (plain.on (plain.plain self.new) No) (calls.receive (plain.plain self.old) p s d) }
         ensures pinned { result ≢ Ok (Answered No) }
     {
         let port = self.readable(p, s)?.object;

@@ -7,7 +7,6 @@ use rights::Rights;
 use rv32::Cpu;
 use std::alloc::{AllocError, AllocFailed};
 use std::collections::VecDeque;
-use std::marker::Model;
 
 // What a slot holds, if it is not empty: an object, rights, a badge, its own birth number, and that
 // of the one that it was made from. 0 is no mother and no badge, as the world's numbers have it.
@@ -98,16 +97,6 @@ pub struct World {
     pub objects: Vec<Object>,
     pub births: u64,
     pub lineage: Vec<Capability>,
-}
-
-// A world is the lists of what its vectors hold.
-impl Model for World {
-    ghost use Rattle.std.specs.Prelude.{map, vec_items};
-    ghost use Rattle.model.specs.Plain.{Whole, thing};
-
-    ghost Value = { Whole };
-
-    ghost view = { λ v. record { things = map thing (vec_items v.objects); births = v.births; lineage = vec_items v.lineage } };
 }
 
 // Memory is used up, or numbers are.

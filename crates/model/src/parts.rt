@@ -73,13 +73,13 @@ impl Object {
 // object for any number was tried, but no Gone can be lent then, since its type owns memory.
 impl World {
     pub fn get(&self, o: usize) -> Option<&Object>
-        ensures { plain.found (option_map (λ x. x.now) result) ≡ plain.object self.now o }
+        ensures { plain.found (option_map (λ x. x.now) result) ≡ plain.object (plain.plain self.now) o }
     {
         self.objects.get(o)
     }
 
     pub fn table_of(&self, p: usize) -> Option<usize>
-        ensures { result ≡ plain.table_of (plain.object self.now p) }
+        ensures { result ≡ plain.table_of (plain.object (plain.plain self.now) p) }
     {
         match self.get(p)? {
             Object::Thread(t) => t.table,
@@ -88,14 +88,14 @@ impl World {
     }
 
     pub fn slot(&self, p: usize, s: u32) -> Option<Capability>
-        ensures { result ≡ plain.slot self.now p s }
+        ensures { result ≡ plain.slot (plain.plain self.now) p s }
     {
         let t = self.table_of(p)?;
         self.get(t)?.slot(s)
     }
 
     pub fn is_free(&self, p: usize, s: u32) -> bool
-        ensures { result ≡ plain.free self.now p s }
+        ensures { result ≡ plain.free (plain.plain self.now) p s }
     {
         let Some(t) = self.table_of(p) else {
             return false;

@@ -18,7 +18,7 @@ fn sweep_all(all: &mut Vec<Object>, marks: &Marks)
 
 impl World {
     fn revoke_all(&mut self, c: Capability) -> Result<(), Fault>
-        ensures { OnOk result (self.new ≡ sweeps.revoked self.old c) }
+        ensures { OnOk result (plain.plain self.new ≡ sweeps.revoked (plain.plain self.old) c) }
     {
         let marks = self.marks_for(c)?;
         sweep_all(&mut self.objects, &marks);
@@ -29,7 +29,7 @@ impl World {
     }
 
     pub fn revoke(&mut self, p: usize, s: u32) -> Result<(), CallError>
-        ensures { plain.Comes result (λ _. plain.on self.new Done) (plain.on self.new No) (sweeps.revoke self.old p s) }
+        ensures { plain.Comes result (λ _. plain.on (plain.plain self.new) Done) (plain.on (plain.plain self.new) No) (sweeps.revoke (plain.plain self.old) p s) }
     {
         let c = self.held(p, s)?;
         if matches!(self.get(c.object), Some(Object::Pool { .. })) && !c.rights.writes() {

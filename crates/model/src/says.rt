@@ -19,7 +19,7 @@ impl World {
     // The byte that thread `p` says with a step, if it says one. It is asked before the step is carried
     // out.
     pub fn says(&self, p: usize, step: Step) -> Option<Said>
-        ensures { result ≡ spec.says self.now p step }
+        ensures { result ≡ spec.says (plain.plain self.now) p step }
     {
         let Step::Call(Call::Say { line, byte }) = step else {
             return None;

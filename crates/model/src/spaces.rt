@@ -33,7 +33,7 @@ pub struct Space<'a> {
 }
 
 impl<'a> Memory for Space<'a> {
-    ghost seen = { λ s. turns.seen s.world.now s.pages.now };
+    ghost seen = { λ s. turns.seen (plain.plain s.world.now) s.pages.now };
 
     fn byte(&self, address: u32) -> Option<u8> {
         let o = page_at(self.pages, address as usize / 4096)?;

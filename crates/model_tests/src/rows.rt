@@ -36,14 +36,14 @@ fn receive(port: u32) -> Call
 
 // What slot `s` of table 4 holds.
 fn held(world: &World, s: u32) -> Option<Capability>
-    ensures { result ≡ plain.slot_at (plain.object world.now 4) s }
+    ensures { result ≡ plain.slot_at (plain.object (plain.plain world.now) 4) s }
 {
     world.get(4)?.slot(s)
 }
 
 // How much of pool 0 is used.
 fn used(world: &World) -> Option<u64>
-    ensures { result ≡ spec.used (plain.object world.now 0) }
+    ensures { result ≡ spec.used (plain.object (plain.plain world.now) 0) }
 {
     match world.get(0)? {
         Object::Pool { used, .. } => Some(*used),
@@ -53,7 +53,7 @@ fn used(world: &World) -> Option<u64>
 
 // The state of a thread.
 fn state(world: &World, p: usize) -> Option<State>
-    ensures { result ≡ spec.state (plain.object world.now p) }
+    ensures { result ≡ spec.state (plain.object (plain.plain world.now) p) }
 {
     match world.get(p)? {
         Object::Thread(t) => Some(t.state),

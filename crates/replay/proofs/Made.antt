@@ -14,7 +14,7 @@ use Rattle.image.specs.Meaning.{four, slots_from, births_of}
 use Rattle.image.specs.Meaning as m
 use Rattle.model.specs.declared.objects.Capability.{Capability}
 use Rattle.model.specs.declared.objects.Object.{Object}
-use Rattle.model.specs.Meaning.{slot_of, object_of, meant}
+use Rattle.model.specs.Meaning.{slot_of, object_of, world_of}
 use Rattle.model.specs.Plain.{thing}
 use Rattle.replay.specs.Reading as reading
 use Rattle.replay.proofs.Turns.{pushed}
@@ -86,7 +86,7 @@ unfolding m.births_all
 births_begin xs e = rw e refl
 
 pub made : (bs : List ℕ) (xs : List Object) (b : ℕ) (l : List Capability) → shown xs ≡ m.objects_of bs → m.births_all (shown xs) ≡ b → l ≡ [] →
-    meant (record { things = map thing xs; births = b; lineage = l }) ≡ m.world_of bs
+    world_of (record { things = map thing xs; births = b; lineage = l }) ≡ m.world_of bs
 made bs xs b l e h n =
     let k : b ≡ m.births_all (m.objects_of bs) = sym h ∙ ap m.births_all e in
     rw (e, k, n) refl

@@ -20,8 +20,8 @@ use Rattle.image.specs.Verdict.{verdict, all_kinds}
 use Rattle.image.proofs.Means.{means_allowed}
 use Rattle.laws.proofs.Images.{image_starts}
 use Rattle.laws.proofs.Spoken.{said_is_shown}
-use Rattle.model.specs.Meaning.{sizes, meant}
-use Rattle.model.specs.Plain.{Whole}
+use Rattle.model.specs.Meaning.{sizes, world_of}
+use Rattle.model.specs.Plain.{Whole, plain}
 use Rattle.model.specs.Same.{Ran}
 use Rattle.model.specs.Sound.{Sound}
 use Rattle.model.proofs.Lasting.{rows_agree}
@@ -56,10 +56,10 @@ module _ (bs : List ℕ) (a : Allowed sizes (m.world_of bs)) where
   unfolding SaidIsShown SaidIsShownIn
   shows o es = said_is_shown Cpu fresh act sizes (m.world_of bs) es o right_kinds ∙ ap (λ xs. xs ++ said_on o (said Cpu fresh act sizes (m.world_of bs) es)) (starts_shown o)
 
-  replays_by : (es : List ℕ) (v : Whole) (r : Replayed) → meant v ≡ m.world_of bs → Ran v (row es) r.world → (Sound v → vec_items r.said ≡ said_from v (row es)) → Replays bs es r
+  replays_by : (es : List ℕ) (v : Whole) (r : Replayed) → world_of v ≡ m.world_of bs → Ran v (row es) (plain r.world) → (Sound v → vec_items r.said ≡ said_from v (row es)) → Replays bs es r
   replays_by es v r e ran says =
       let so = is_sound v (subst (Allowed sizes) (sym e) a) in
-      let k = rows_agree v r.world so (row es) ran in
+      let k = rows_agree v (plain r.world) so (row es) ran in
       let left = k.0 ∙ ap (λ x. w.run Cpu fresh act sizes x (row es)) e in
       let told = says so ∙ ap (λ x. said Cpu fresh act sizes x (row es)) e in
       record {
@@ -69,7 +69,7 @@ module _ (bs : List ℕ) (a : Allowed sizes (m.world_of bs)) where
         sound = k.1;
       }
 
-pub replays : (bs es : List ℕ) (v : Whole) (r : Replayed) → Bytes bs → meant v ≡ m.world_of bs → Ran v (row es) r.world → (Sound v → vec_items r.said ≡ said_from v (row es)) →
+pub replays : (bs es : List ℕ) (v : Whole) (r : Replayed) → Bytes bs → world_of v ≡ m.world_of bs → Ran v (row es) (plain r.world) → (Sound v → vec_items r.said ≡ said_from v (row es)) →
     (lent : ℕ) (c : Census) → verdict all_kinds lent bs ≡ Ok c → Replays bs es r
 replays bs es v r low h ran says lent c e = replays_by bs (means_allowed all_kinds lent sizes bs c refl refl low e).0 es v r h ran says
 

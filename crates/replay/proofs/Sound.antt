@@ -19,7 +19,7 @@ use Rattle.model.specs.Plain as p
 use Rattle.model.specs.Calls.{is_page}
 use Rattle.model.specs.Sweeps.{base_of}
 use Rattle.model.specs.Sound.{Dense, Sound}
-use Rattle.model.specs.Meaning.{sizes, number_of, page_of, may_write, cap_of, slot_of, state_of, core_of, object_of, world_of, meant}
+use Rattle.model.specs.Meaning.{sizes, number_of, page_of, may_write, cap_of, slot_of, state_of, core_of, object_of, world_of}
 use Rattle.model.proofs.Agree.{object, slots_of, read_any, at_world, slot_at_world}
 
 abbrev from_of : w.Object Cpu → ℕ
@@ -125,5 +125,5 @@ module _ (v : p.Whole) (allowed : Allowed sizes (world_of v)) where
       }
 
 -- so is what an image that is taken is made into
-pub started : (lent : ℕ) (bs : List ℕ) (c : Census) (v : p.Whole) → Bytes bs → verdict all_kinds lent bs ≡ Ok c → meant v ≡ m.world_of bs → Sound v
+pub started : (lent : ℕ) (bs : List ℕ) (c : Census) (v : p.Whole) → Bytes bs → verdict all_kinds lent bs ≡ Ok c → world_of v ≡ m.world_of bs → Sound v
 started lent bs c v low e h = is_sound v (subst (Allowed sizes) (sym h) (means_allowed all_kinds lent sizes bs c refl refl low e).0)

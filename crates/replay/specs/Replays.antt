@@ -11,7 +11,7 @@ use Rattle.image.specs.Fields.{Read}
 use Rattle.image.specs.Meaning as meaning
 use Rattle.image.specs.Rows.{row}
 use Rattle.model.specs.Meaning.{sizes, world_of, meant}
-use Rattle.model.specs.Plain.{Whole}
+use Rattle.model.specs.Plain.{Whole, plain}
 use Rattle.model.specs.Sound.{Sound}
 use Rattle.replay.specs.declared.errors.StartError.{StartError}
 use Rattle.replay.specs.declared.errors.StartError.TheVariants as error
@@ -27,7 +27,7 @@ pub record Replays (bs es : List ℕ) (r : Replayed) : Type 0 where
   pub left : meant r.world ≡ w.run Cpu fresh act sizes (meaning.world_of bs) (row es)
   pub told : vec_items r.said ≡ said Cpu fresh act sizes (meaning.world_of bs) (row es)
   pub shown : (o : ℕ) → shown_by Cpu fresh act (object Cpu fresh act (meant r.world) o) ≡ said_on o (vec_items r.said)
-  pub sound : Sound r.world
+  pub sound : Sound (plain r.world)
 
 -- why no world is handed back, by the answer of the check: a refusal is the check's own; and where the check takes both, memory or numbers are used up
 abbrev pub Told : {A : Type 0} → Read A → StartError → Type 0

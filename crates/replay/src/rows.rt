@@ -2,6 +2,7 @@
 ghost use Rattle.std.specs.Prelude.{◌≡◌, ◌++◌, [], OnOk, IfOk};
 ghost use Rattle.rights.specs.Said.{with_first};
 ghost use Rattle.image.specs.Rows.{row};
+ghost use Rattle.model.specs.Plain.{plain};
 ghost use Rattle.model.specs.Same.{Ran};
 ghost use Rattle.model.specs.Sound.{Sound};
 ghost use Rattle.replay.specs.Replays.{said_from};
@@ -24,8 +25,8 @@ fn append(said: &mut Vec<Said>, more: Option<Said>) -> Result<(), Fault>
 // Carries out a row of events, one after the other: an instruction's time for a thread, or a byte
 // that comes in at a line. What was said is handed back, in order.
 pub fn carry_out_row(heap: Global, world: &mut World, events: &[u8]) -> Result<Vec<Said>, Fault>
-    ensures ran { IfOk result (λ _. Ran world.old (row events.now) world.new) }
-    ensures said { IfOk result (λ said. Sound world.old → said.items ≡ said_from world.old (row events.now)) }
+    ensures ran { IfOk result (λ _. Ran (plain world.old) (row events.now) (plain world.new)) }
+    ensures said { IfOk result (λ said. Sound (plain world.old) → said.items ≡ said_from (plain world.old) (row events.now)) }
 {
     let mut said = Vec::new(heap);
     let mut at = 0;

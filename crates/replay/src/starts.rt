@@ -7,6 +7,7 @@ ghost use Rattle.image.specs.Verdict.{verdict, all_kinds};
 ghost use Rattle.model.specs.declared.objects.Fault as model;
 ghost use Rattle.model.specs.declared.objects.Fault.TheVariants.{Memory};
 ghost use Rattle.model.specs.Meaning.{meant};
+ghost use Rattle.model.specs.Plain.{plain};
 ghost use Rattle.model.specs.Sound.{Sound};
 ghost use Rattle.replay.specs.declared.errors.StartError.TheVariants as error;
 
@@ -44,7 +45,7 @@ pub(crate) fn world(heap: Global, bytes: &[u8]) -> Result<World, AllocError>
 pub fn start(heap: Global, image: &[u8], frames: u32) -> Result<World, StartError>
     ensures taken { IfOk result (λ _. (census : Census) × (verdict all_kinds frames image.now ≡ Ok census)) }
     ensures means { IfOk result (λ world. meant world ≡ meaning.world_of image.now) }
-    ensures sound { IfOk result (λ world. Sound world) }
+    ensures sound { IfOk result (λ world. Sound (plain world)) }
     ensures refused { (r : Refusal) → verdict all_kinds frames image.now ≡ Err r → result ≡ Err (error.Refused r) }
     ensures told { (r : Refusal) → result ≡ Err (error.Refused r) → verdict all_kinds frames image.now ≡ Err r }
     ensures fault { (f : model.Fault) → result ≡ Err (error.Fault f) → f ≡ Memory }

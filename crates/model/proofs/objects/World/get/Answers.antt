@@ -4,4 +4,4 @@ use Rattle.model.proofs.objects.World.get.Goals as goal
 
 pub returns : goal.returns
 unfolding the.object
-returns c = rw (← c.self.view_is) (rw c.deref.ensures.value at (read_item (λ x. x.now) the.thing the.gone c.deref.result.now c.args.o c.get.result c.get.ensures.lookup))
+returns c = rw c.deref.ensures.value at (read_item (λ x. x.now) the.thing the.gone c.deref.result.now c.args.o c.get.result c.get.ensures.lookup)
