@@ -46,10 +46,7 @@ impl Marks {
     fn kept_page(&self, x: Mapping) -> Mapping
         ensures { result ≡ sweeps.kept_page self.now x }
     {
-        Mapping {
-            page: self.kept_number(x.page),
-            ..x
-        }
+        Mapping::new(self.kept_number(x.page()), x.writes())
     }
 
     // One who waits is kept, unless the thread is gone.
