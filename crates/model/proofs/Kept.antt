@@ -72,21 +72,21 @@ module _ (v : p.Whole) (so : Sound v) (o : ℕ) where
   resumed_fit a =
       by_thread (λ l. Fit v (p.object v o) l) (p.object v o) (p.object v o) _ (same_fit v so o) (λ t e. same_pages t _ e refl)
 
-  paged_with : (t : Thread) (a : ℕ) (m : Mapping) → p.object v o ≡ p.thread t → ((n : ℕ) → m.page ≡ Some n → calls.is_page (p.object v n) ≡ true) →
+  paged_with : (t : Thread) (a : ℕ) (m : Mapping) → p.object v o ≡ p.thread t → ((n : ℕ) → p.page_in m ≡ Some n → calls.is_page (p.object v n) ≡ true) →
       Fit v (p.object v o) (p.thread (calls.with_page t a m))
   paged_with t a m e h =
       subst (λ z. Fit v z (p.thread (calls.with_page t a m))) (sym e)
       (thread_fit v t (calls.with_page t a m)
       (λ k n g. elim (wrote t.pages a k m p.unmapped) [ inl q ↦ so.paged o k n t e (sym (paged q) ∙ g) | inr q ↦ h n (sym (paged q.1) ∙ g) ]))
     where
-      paged : {x y : Mapping} → x ≡ y → x.page ≡ y.page
-      paged q = ap (λ z. z.page) q
+      paged : {x y : Mapping} → x ≡ y → p.page_in x ≡ p.page_in y
+      paged q = ap p.page_in q
 
   pub maps_fit : (a n : ℕ) (m : Bool) → calls.is_page (p.object v n) ≡ true → Fit v (p.object v o) (calls.maps a n m (p.object v o)).it
   maps_fit a n m h =
       by_thread (λ l. Fit v (p.object v o) l.it) (p.object v o) (p.left (p.object v o) No) _ (same_fit v so o)
       (λ t e. by_cond {A = p.Left} (λ l. Fit v (p.object v o) l.it) (ltb a 64 && is_none (p.page_at t.pages a)) _ _
-      (paged_with t a (record { page = Some n; writes = m }) e (λ i q. let r : n ≡ i = cc in subst (λ k. calls.is_page (p.object v k) ≡ true) r h)) (same_fit v so o))
+      (paged_with t a (p.mapping_of (Some n) m) e (λ i q. let r : n ≡ i = cc in subst (λ k. calls.is_page (p.object v k) ≡ true) r h)) (same_fit v so o))
 
   pub unmaps_fit : (a : ℕ) → Fit v (p.object v o) (calls.unmaps a (p.object v o)).it
   unmaps_fit a =

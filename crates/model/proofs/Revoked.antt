@@ -21,6 +21,15 @@ use Rattle.model.proofs.Agree.{object, with_object, slot, Went, goes, less_one, 
 use Rattle.model.proofs.Same.{does, refused, unchanged}
 use Rattle.model.proofs.Kin.{births_is, cuts_is}
 
+-- what is put into a mapping stands in it
+pub page_in_of : (n : Option ℕ) (m : Bool) → p.page_in (p.mapping_of n m) ≡ n
+page_in_of None m = refl
+page_in_of (Some n) m = refl
+
+mark_in_of : (n : Option ℕ) (m : Bool) → p.mark_in (p.mapping_of n m) ≡ m
+mark_in_of None m = refl
+mark_in_of (Some n) m = refl
+
 cons_both : {X : Type 0} (x y : X) (xs ys : List X) → x ≡ y → xs ≡ ys → x ∷ xs ≡ y ∷ ys
 cons_both x y xs ys e f = ap (λ z. z ∷ xs) e ∙ ap (λ zs. y ∷ zs) f
 
@@ -71,11 +80,11 @@ module _ (k : Marks) (ids gone : List ℕ) (b : (c : ℕ) → takes_birth k c �
   pages_are : (ps : List Mapping) → map page_of (kept_pages k ps) ≡ w.unmapped Cpu fresh act gone (map page_of ps)
   unfolding w.unmapped
   pages_are [] = refl
-  pages_are (x ∷ xs) = cons_both _ _ _ _ (number_is x.page) (pages_are xs)
+  pages_are (x ∷ xs) = cons_both _ _ _ _ (ap number_of (page_in_of (kept_number k (p.page_in x)) (p.mark_in x)) ∙ number_is (p.page_in x)) (pages_are xs)
 
   marks_stay : (ps : List Mapping) → map may_write (kept_pages k ps) ≡ map may_write ps
   marks_stay [] = refl
-  marks_stay (x ∷ xs) = ap (λ ms. x.writes ∷ ms) (marks_stay xs)
+  marks_stay (x ∷ xs) = cons_both _ _ _ _ (mark_in_of (kept_number k (p.page_in x)) (p.mark_in x)) (marks_stay xs)
 
   -- a thread, by its state
   abbrev with_parts : Thread → State → Cpu → w.Object Cpu

@@ -139,7 +139,7 @@ go_same v q t a = ap went_of (only_is calls.writes (p.slot v q t) (p.refuse v) (
 -- a thread with another page
 paged_is : (v : p.Whole) (o a : ℕ) (t : Thread) (m : Mapping) →
     with_object (world_of v) o (object_of (p.thread (calls.with_page t a m)))
-    ≡ with_object (world_of v) o (w.thread 0 (state_of t.state t.cpu) (core_of t.state t.cpu) (number_of t.table) (set (map page_of t.pages) a (page_of m)) (set (map may_write t.pages) a m.writes))
+    ≡ with_object (world_of v) o (w.thread 0 (state_of t.state t.cpu) (core_of t.state t.cpu) (number_of t.table) (set (map page_of t.pages) a (page_of m)) (set (map may_write t.pages) a (p.mark_in m)))
 paged_is v o a t m =
     ap (λ ps. with_object (world_of v) o (w.thread 0 (state_of t.state t.cpu) (core_of t.state t.cpu) (number_of t.table) ps (map may_write (set t.pages a m)))) (map-set page_of t.pages a m)
     ∙ ap (λ ms. with_object (world_of v) o (w.thread 0 (state_of t.state t.cpu) (core_of t.state t.cpu) (number_of t.table) (set (map page_of t.pages) a (page_of m)) ms)) (map-set may_write t.pages a m)
@@ -246,8 +246,8 @@ mapped v o a n m t =
     goes (with_object (world_of v) o (w.thread 0 (state_of t.state t.cpu) (core_of t.state t.cpu) (number_of t.table) (set (map page_of t.pages) a (suc n)) (set (map may_write t.pages) a m))) (0 ∷ [])
 
 maps_by : (v : p.Whole) (o a n : ℕ) (m : Bool) (t : Thread) (b : Bool) → p.thread t ≡ p.object v o →
-    went_of (p.change v o (cond b (p.left (p.thread (calls.with_page t a (record { page = Some n; writes = m }))) Done) (p.left (p.thread t) No))) ≡ w.pick b (mapped v o a n m t) (refused (world_of v))
-maps_by v o a n m t true e = ap (λ u. goes u (0 ∷ [])) (put_world v o _ ∙ paged_is v o a t (record { page = Some n; writes = m }))
+    went_of (p.change v o (cond b (p.left (p.thread (calls.with_page t a (p.mapping_of (Some n) m))) Done) (p.left (p.thread t) No))) ≡ w.pick b (mapped v o a n m t) (refused (world_of v))
+maps_by v o a n m t true e = ap (λ u. goes u (0 ∷ [])) (put_world v o _ ∙ paged_is v o a t (p.mapping_of (Some n) m))
 maps_by v o a n m t false e = kept_no v o _ e
 
 maps_at : (v : p.Whole) (o a n : ℕ) (m : Bool) (x : p.Thing) → x ≡ p.object v o → w.is_page Cpu fresh act (object (world_of v) n) ≡ true →

@@ -47,7 +47,7 @@ unfolding p.object
 pages_none zero k t e = cc
 pages_none (suc zero) k t e = cc
 pages_none (suc (suc zero)) k t e = cc
-pages_none (suc (suc (suc zero))) k t e = let f : replicate 64 p.unmapped ≡ t.pages = cc in ap (λ ps. p.page_at ps k) (sym f) ∙ ap (λ m. m.page) (nowhere p.unmapped 64 k)
+pages_none (suc (suc (suc zero))) k t e = let f : replicate 64 p.unmapped ≡ t.pages = cc in ap (λ ps. p.page_at ps k) (sym f) ∙ ap p.page_in (nowhere p.unmapped 64 k)
 pages_none (suc (suc (suc (suc q)))) k t e = cc
 
 no_page : (o : ℕ) (f : Option ℕ) (bs : List ℕ) → p.object small o ≡ p.page f bs → length bs ≡ 4096

@@ -10,7 +10,7 @@ use Rattle.model.specs.Plain as p
 use Rattle.model.specs.Calls as calls
 use Rattle.model.specs.Sweeps.{base_of, Marks, takes, takes_birth, kept_slots, kept_number, kept_pages, kept_thread, kept, kept_at, swept}
 use Rattle.model.specs.Sound.{Dense, Sound}
-use Rattle.model.proofs.Revoked.{swept_at}
+use Rattle.model.proofs.Revoked.{page_in_of, swept_at}
 use Rattle.model.proofs.Keeping.{Fit, put_sound, by_table, same_fit, table_fit}
 use Rattle.model.proofs.Lists.{wrote}
 
@@ -211,7 +211,7 @@ number_back k (Some m) n e = by (takes k m) refl e
 
 page_read : (k : Marks) (ps : List Mapping) (i n : ℕ) → p.page_at (kept_pages k ps) i ≡ Some n → (p.page_at ps i ≡ Some n) × (takes k n ≡ false)
 page_read k [] i n e = absurd (none_some n e)
-page_read k (m ∷ ps) zero n e = number_back k m.page n e
+page_read k (m ∷ ps) zero n e = number_back k (p.page_in m) n (sym (page_in_of (kept_number k (p.page_in m)) (p.mark_in m)) ∙ e)
 page_read k (m ∷ ps) (suc i) n e = page_read k ps i n e
 
 pub swept_sound : (v : p.Whole) (k : Marks) → Sound v → Sound (swept v k)

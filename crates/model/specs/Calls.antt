@@ -17,7 +17,7 @@ use Rattle.model.specs.declared.objects.State.TheVariants.{Stopped, Ready, Waits
 use Rattle.model.specs.declared.objects.Thread.{Thread}
 use Rattle.model.specs.declared.objects.Wait.{Wait}
 use Rattle.model.specs.declared.objects.Wait.TheVariants.{Sender, Receiver}
-use Rattle.model.specs.Plain.{Thing, pool, table, port, page, thread, line, Whole, on_pool, on_table, on_port, on_page, on_thread, on_line, on_some, unmapped, page_at, object, with_object, slot, free, with_slot, Left, left, Ended, on, wait, refuse, done, change}
+use Rattle.model.specs.Plain.{Thing, pool, table, port, page, thread, line, Whole, on_pool, on_table, on_port, on_page, on_thread, on_line, on_some, mapping_of, unmapped, page_at, object, with_object, slot, free, with_slot, Left, left, Ended, on, wait, refuse, done, change}
 
 -- the rights of a capability
 abbrev pub reads : Capability → Bool
@@ -103,7 +103,7 @@ binds n x = on_thread x (left x No) (λ t. cond (is_stopped t.state) (left (thre
 abbrev pub maps : ℕ → ℕ → Bool → Thing → Left
 maps a q m x =
     on_thread x (left x No)
-    (λ t. cond (nat_lt a 64 && is_none (page_at t.pages a)) (left (thread (with_page t a (record { page = Some q; writes = m }))) Done) (left x No))
+    (λ t. cond (nat_lt a 64 && is_none (page_at t.pages a)) (left (thread (with_page t a (mapping_of (Some q) m))) Done) (left x No))
 
 abbrev pub unmaps : ℕ → Thing → Left
 unmaps a x = on_thread x (left x No) (λ t. cond (nat_lt a 64) (left (thread (with_page t a unmapped)) Done) (left x No))

@@ -25,10 +25,10 @@ number_of (Some n) = suc n
 
 -- a page of a space: the world has one list of the pages, and one of whether they may be written
 abbrev pub page_of : Mapping → ℕ
-page_of m = number_of m.page
+page_of m = number_of (p.page_in m)
 
 abbrev pub may_write : Mapping → Bool
-may_write m = m.writes
+may_write m = p.mark_in m
 
 abbrev pub cap_of : Capability → w.Slot
 cap_of c = w.cap c.object (rights_of c.rights) c.badge c.birth c.mother

@@ -10,6 +10,7 @@ use Rattle.model.specs.declared.ends.Outcome.{Outcome}
 use Rattle.model.specs.declared.ends.Outcome.TheVariants.{Answered, Waiting}
 use Rattle.model.specs.declared.objects.Capability.{Capability}
 use Rattle.model.specs.declared.objects.Mapping.{Mapping}
+use Rattle.model.specs.declared.objects.Mapping.TheVariants.{Unmapped, Mapped}
 use Rattle.model.specs.declared.objects.Thread.{Thread}
 use Rattle.model.specs.declared.objects.Wait.{Wait}
 use Rattle.model.specs.declared.objects.Object.{Object}
@@ -94,15 +95,29 @@ from_of (port f ws) = f
 from_of (page f bs) = f
 from_of _ = None
 
--- a page of a space, one that is none past the end
+-- a page of a space: its page, if any, and whether it may be written
+abbrev pub page_in : Mapping → Option ℕ
+page_in (Unmapped m) = None
+page_in (Mapped m n) = Some n
+
+abbrev pub mark_in : Mapping → Bool
+mark_in (Unmapped m) = m
+mark_in (Mapped m n) = m
+
+-- the one that has these two
+abbrev pub mapping_of : Option ℕ → Bool → Mapping
+mapping_of None m = Unmapped m
+mapping_of (Some n) m = Mapped m n
+
+-- one that is none past the end
 abbrev pub unmapped : Mapping
-unmapped = record { page = None; writes = false }
+unmapped = mapping_of None false
 
 abbrev pub mapping : List Mapping → ℕ → Mapping
 mapping ps a = slice_index_or ps a unmapped
 
 abbrev pub page_at : List Mapping → ℕ → Option ℕ
-page_at ps a = (mapping ps a).page
+page_at ps a = page_in (mapping ps a)
 
 -- slots of a table
 abbrev pub table_of : Thing → Option ℕ

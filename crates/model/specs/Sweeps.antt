@@ -9,7 +9,7 @@ use Rattle.model.specs.declared.objects.State.TheVariants.{Ready, Waits}
 use Rattle.model.specs.declared.objects.Thread.{Thread}
 use Rattle.model.specs.declared.objects.Wait.{Wait}
 use Rattle.model.specs.declared.objects.Wait.TheVariants.{Sender, Receiver}
-use Rattle.model.specs.Plain.{Thing, gone, pool, table, port, thread, Whole, on_pool, on_some, from_of, object, with_object, slot, Ended, refuse, done}
+use Rattle.model.specs.Plain.{Thing, gone, pool, table, port, thread, Whole, on_pool, on_some, page_in, mark_in, mapping_of, from_of, object, with_object, slot, Ended, refuse, done}
 use Rattle.model.specs.Calls.{writes, is_pool, then_of}
 
 -- a mark for each element, by the marks before it
@@ -73,7 +73,7 @@ abbrev pub kept_number : Marks → Option ℕ → Option ℕ
 kept_number k n = on_some n None (λ o. cond (takes k o) None (Some o))
 
 abbrev pub kept_page : Marks → Mapping → Mapping
-kept_page k m = record { page = kept_number k m.page; writes = m.writes }
+kept_page k m = mapping_of (kept_number k (page_in m)) (mark_in m)
 
 abbrev pub kept_pages : Marks → List Mapping → List Mapping
 kept_pages k ps = map (kept_page k) ps

@@ -12,7 +12,7 @@ use Rattle.rights.specs.World.{Act}
 use Rattle.model.specs.declared.objects.Mapping.{Mapping}
 use Rattle.model.specs.declared.objects.State.{State}
 use Rattle.model.specs.declared.objects.State.TheVariants.{Stopped, Ready, Waits}
-use Rattle.model.specs.Plain.{Thing, page, thread, Whole, on_page, on_thread, on_some, mapping, page_at, object, with_object, Ended, on, wait}
+use Rattle.model.specs.Plain.{Thing, page, thread, Whole, on_page, on_thread, on_some, mark_in, mapping, page_at, object, with_object, Ended, on, wait}
 use Rattle.model.specs.Calls as calls
 use Rattle.model.specs.Calls.{with_state}
 use Rattle.model.specs.Cuts.{cut}
@@ -74,7 +74,7 @@ stored k bs x = on_page x x (λ f old. cond (nat_le (k + length bs) (length old)
 
 -- the page that n bytes may be stored to, at an address of a thread's space
 abbrev pub may_store : Thing → ℕ → ℕ → Option ℕ
-may_store x a n = on_thread x None (λ t. cond ((mapping t.pages (a / 4096)).writes && nat_le (a % 4096 + n) 4096) (page_at t.pages (a / 4096)) None)
+may_store x a n = on_thread x None (λ t. cond (mark_in (mapping t.pages (a / 4096)) && nat_le (a % 4096 + n) 4096) (page_at t.pages (a / 4096)) None)
 
 abbrev pub stores_to : Whole → ℕ → ℕ → ℕ → List ℕ → Whole
 stores_to w p o k bs = with_thread (with_object w o (stored k bs (object w o))) p Ready (next (cpu_of (object w p)))

@@ -45,10 +45,10 @@ impl Object {
             return None;
         };
         let mapping = t.pages.get(address as usize / 4096)?;
-        if !mapping.writes || u64::from(address) % 4096 + u64::from(size) > 4096 {
+        if !mapping.writes() || u64::from(address) % 4096 + u64::from(size) > 4096 {
             return None;
         }
-        mapping.page
+        mapping.page()
     }
 
     // The range is tested by hand, since of the get_mut of a range no bytes are known after it.

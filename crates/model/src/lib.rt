@@ -18,7 +18,7 @@ mod theorems;
 mod threads;
 
 pub use ends::{CallError, Outcome, Refused};
-pub use marks::Marks;
+pub use marks::{LentMarks, Marks};
 pub use objects::{Capability, Fault, Letter, Mapping, Object, State, Thread, Wait, World};
 pub use theorems::{
     always_left, calls_agree, events_agree, rows_agree, says_agree, small_is_sound, stays_sound,

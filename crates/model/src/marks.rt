@@ -25,17 +25,58 @@ impl Model for Marks {
     ghost view = { λ k. record { base = k.base; births = vec_items k.births; objects = vec_items k.objects } };
 }
 
+// The same marks, lent: who has slices of them makes no vectors. It is no Copy, since a struct with a
+// lifetime and a model can't be, and is handed on by `&`.
+#[derive(Drop)]
+pub struct LentMarks<'a> {
+    pub base: u64,
+    pub births: &'a [bool],
+    pub objects: &'a [bool],
+}
+
+impl<'a> Model for LentMarks<'a> {
+    ghost use Rattle.model.specs.Sweeps.{Marks};
+
+    ghost Value = { Marks };
+
+    ghost view = { λ k. record { base = k.base; births = k.births.now; objects = k.objects.now } };
+}
+
 impl Marks {
+    pub fn lent(&self) -> LentMarks<'_>
+        ensures { result ≡ self.now }
+    {
+        LentMarks {
+            base: self.base,
+            births: self.births.as_slice(),
+            objects: self.objects.as_slice(),
+        }
+    }
+
     pub fn takes(&self, o: usize) -> bool
         ensures { result ≡ sweeps.takes self.now o }
     {
-        flag(self.objects.as_slice(), o)
+        self.lent().takes(o)
     }
 
     pub fn takes_birth(&self, birth: u64) -> bool
         ensures { result ≡ sweeps.takes_birth self.now birth }
     {
-        marked(self.base, self.births.as_slice(), birth)
+        self.lent().takes_birth(birth)
+    }
+}
+
+impl LentMarks<'_> {
+    pub fn takes(&self, o: usize) -> bool
+        ensures { result ≡ sweeps.takes self.now o }
+    {
+        flag(self.objects, o)
+    }
+
+    pub fn takes_birth(&self, birth: u64) -> bool
+        ensures { result ≡ sweeps.takes_birth self.now birth }
+    {
+        marked(self.base, self.births, birth)
     }
 }
 

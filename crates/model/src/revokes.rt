@@ -5,10 +5,10 @@ ghost use Rattle.model.specs.Plain as plain;
 ghost use Rattle.model.specs.Sweeps as sweeps;
 
 use crate::ends::CallError;
-use crate::marks::Marks;
+use crate::marks::LentMarks;
 use crate::objects::{Capability, Fault, Object, World};
 
-fn sweep_all(all: &mut Vec<Object>, marks: &Marks)
+fn sweep_all(all: &mut Vec<Object>, marks: &LentMarks<'_>)
     ensures { map plain.thing all.new.items ≡ sweeps.at_each (sweeps.kept_at marks.now) 0 (map plain.thing all.old.items) }
 {
     for (i, x) in all.iter_mut().enumerate() {
@@ -21,7 +21,7 @@ impl World {
         ensures { OnOk result (plain.plain self.new ≡ sweeps.revoked (plain.plain self.old) c) }
     {
         let marks = self.marks_for(c)?;
-        sweep_all(&mut self.objects, &marks);
+        sweep_all(&mut self.objects, &marks.lent());
         if let Some(it) = self.get_mut(c.object) {
             it.set_used(0);
         }

@@ -18,11 +18,39 @@ impl Object {
     }
 }
 
+impl Mapping {
+    pub fn new(page: Option<usize>, writes: bool) -> Mapping
+        ensures { result ≡ plain.mapping_of page writes }
+    {
+        match page {
+            None => Mapping::Unmapped { writes },
+            Some(page) => Mapping::Mapped { writes, page },
+        }
+    }
+
+    pub fn page(self) -> Option<usize>
+        ensures { result ≡ plain.page_in self }
+    {
+        match self {
+            Mapping::Unmapped { .. } => None,
+            Mapping::Mapped { page, .. } => Some(page),
+        }
+    }
+
+    pub fn writes(self) -> bool
+        ensures { result ≡ plain.mark_in self }
+    {
+        match self {
+            Mapping::Unmapped { writes } | Mapping::Mapped { writes, .. } => writes,
+        }
+    }
+}
+
 // The page at a place of a space, none past the end.
 pub fn page_at(pages: &[Mapping], i: usize) -> Option<usize>
     ensures { result ≡ plain.page_at pages.now i }
 {
-    pages.get(i)?.page
+    pages.get(i)?.page()
 }
 
 // The space of a thread.

@@ -3,7 +3,7 @@ ghost use Rattle.std.specs.Prelude.{◌≡◌, map};
 ghost use Rattle.model.specs.Plain as plain;
 ghost use Rattle.model.specs.Sweeps as sweeps;
 
-use crate::marks::Marks;
+use crate::marks::LentMarks;
 use crate::objects::{Capability, Mapping, Object, State, Thread, Wait};
 use rights::Answer;
 use std::collections::VecDeque;
@@ -30,26 +30,30 @@ fn keep_each<T: Copy, F: Fn(T) -> T>(items: &mut [T], keep: F)
     }
 }
 
-impl Marks {
+impl LentMarks<'_> {
     fn kept_slot(&self, x: Option<Capability>) -> Option<Capability>
         ensures { result ≡ sweeps.kept_slot self.now x }
     {
-        x.filter(|c| !self.takes_birth(c.birth) && !self.takes(c.object))
+        let c = x?;
+        if self.takes_birth(c.birth) || self.takes(c.object) {
+            return None;
+        }
+        x
     }
 
     fn kept_number(&self, number: Option<usize>) -> Option<usize>
         ensures { result ≡ sweeps.kept_number self.now number }
     {
-        number.filter(|n| !self.takes(*n))
+        if self.takes(number?) {
+            return None;
+        }
+        number
     }
 
     fn kept_page(&self, x: Mapping) -> Mapping
         ensures { result ≡ sweeps.kept_page self.now x }
     {
-        Mapping {
-            page: self.kept_number(x.page),
-            ..x
-        }
+        Mapping::new(self.kept_number(x.page()), x.writes())
     }
 
     // One who waits is kept, unless the thread is gone.
@@ -88,7 +92,7 @@ impl Marks {
 }
 
 impl Object {
-    pub fn sweep(&mut self, marks: &Marks)
+    pub fn sweep(&mut self, marks: &LentMarks<'_>)
         ensures { plain.thing self.new ≡ sweeps.kept marks.now (plain.thing self.old) }
     {
         match self {
@@ -102,7 +106,7 @@ impl Object {
     }
 
     // Object number `i`, which may be gone itself.
-    pub fn sweep_at(&mut self, marks: &Marks, i: usize)
+    pub fn sweep_at(&mut self, marks: &LentMarks<'_>, i: usize)
         ensures { plain.thing self.new ≡ sweeps.kept_at marks.now i (plain.thing self.old) }
     {
         if marks.takes(i) {

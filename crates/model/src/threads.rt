@@ -51,13 +51,10 @@ impl Object {
         if place >= 64 {
             return Err(Refused);
         }
-        let None = t.pages[place as usize].page else {
+        let None = t.pages[place as usize].page() else {
             return Err(Refused);
         };
-        t.pages[place as usize] = Mapping {
-            page: Some(page),
-            writes,
-        };
+        t.pages[place as usize] = Mapping::new(Some(page), writes);
         Ok(())
     }
 
@@ -70,10 +67,7 @@ impl Object {
         if place >= 64 {
             return Err(Refused);
         }
-        t.pages[place as usize] = Mapping {
-            page: None,
-            writes: false,
-        };
+        t.pages[place as usize] = Mapping::new(None, false);
         Ok(())
     }
 }

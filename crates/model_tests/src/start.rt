@@ -25,15 +25,11 @@ fn holds(object: u16) -> Option<Capability>
 fn thread(pc: u32) -> Thread
     ensures { result ≡ spec.new_thread pc }
 {
-    let unmapped = Mapping {
-        page: None,
-        writes: false,
-    };
     Thread {
         state: State::Ready,
         cpu: Cpu::fresh(pc),
         table: Some(4),
-        pages: [unmapped; 64],
+        pages: [Mapping::new(None, false); 64],
     }
 }
 

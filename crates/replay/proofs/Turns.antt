@@ -1,5 +1,5 @@
 -- One turn of a loop that makes slots, bytes or pages of a space: what is made, and what is still to be read, is what was to be read from the start.
-use Rattle.std.proofs.Common.{◌≡◌, ℕ, zero, suc, ◌+◌, ◌-◌, ◌*◌, ◌<◌, ◌≤◌, cond, List, [], ◌∷◌, ◌++◌, map, length, Some, None, Option, refl, ap, ◌∙◌, append_assoc, get_or, subst, ◌==◌, arith}
+use Rattle.std.proofs.Common.{◌≡◌, ℕ, zero, suc, ◌+◌, ◌-◌, ◌*◌, ◌<◌, ◌≤◌, Bool, cond, List, [], ◌∷◌, ◌++◌, map, length, Some, None, Option, refl, ap, ◌∙◌, append_assoc, get_or, subst, ◌==◌, arith}
 use Rattle.std.specs.Option.{is_some}
 use Rattle.std.proofs.lemmas.List.{map_push, append-nil}
 use Rattle.std.proofs.lemmas.Bool.Decides.{nat_tests}
@@ -9,7 +9,7 @@ use Rattle.image.specs.Meaning as m
 use Rattle.model.specs.declared.objects.Capability.{Capability}
 use Rattle.model.specs.declared.objects.Mapping.{Mapping}
 use Rattle.model.specs.Meaning.{number_of, page_of, may_write, slot_of}
-use Rattle.model.specs.Plain.{unmapped}
+use Rattle.model.specs.Plain.{page_in, mark_in, mapping_of, unmapped}
 use Rattle.replay.specs.Reading as reading
 
 -- one more element, before the rest
@@ -54,8 +54,19 @@ named_back : (n : ℕ) → number_of (reading.named n) ≡ n
 named_back zero = refl
 named_back (suc n) = grind (arith, nat_tests)
 
+page_in_of : (n : Option ℕ) (m : Bool) → page_in (mapping_of n m) ≡ n
+page_in_of None m = refl
+page_in_of (Some n) m = refl
+
+mark_in_of : (n : Option ℕ) (m : Bool) → mark_in (mapping_of n m) ≡ m
+mark_in_of None m = refl
+mark_in_of (Some n) m = refl
+
 first_page : (bs : List ℕ) (a : ℕ) (x : Mapping) → x ≡ reading.mapping bs a → (page_of x ≡ two bs a) × (may_write x ≡ (one bs (a + 2) == 1))
-first_page bs a x e = (ap page_of e ∙ named_back (two bs a), ap may_write e)
+first_page bs a x e = (
+  ap page_of e ∙ ap number_of (page_in_of (reading.named (two bs a)) (one bs (a + 2) == 1)) ∙ named_back (two bs a),
+  ap may_write e ∙ mark_in_of (reading.named (two bs a)) (one bs (a + 2) == 1),
+)
 
 pub spaces : (bs : List ℕ) (a n : ℕ) (xs : List Mapping) → length xs ≡ n → ((i : ℕ) → i < n → get_or xs i unmapped ≡ reading.mapping bs (a + 3 * i))
     → (map page_of xs ≡ m.pages_from bs n a) × (map may_write xs ≡ m.marks_from bs n a)

@@ -10,6 +10,7 @@ use Rattle.image.specs.Fields as fields
 use Rattle.image.specs.Format.{part}
 use Rattle.image.specs.Meaning as m
 use Rattle.model.specs.declared.objects.Mapping.{Mapping}
+use Rattle.model.specs.Plain.{mapping_of}
 use Rattle.replay.specs.declared.places.Places.{Places}
 
 -- a slot at a place, where what it holds has a birth
@@ -22,7 +23,7 @@ named n = cond (n == 0) None (Some (n - 1))
 
 -- the page of a space at a place
 abbrev pub mapping : List ℕ → ℕ → Mapping
-mapping bs a = record { page = named (fields.two bs a); writes = fields.one bs (a + 2) == 1 }
+mapping bs a = mapping_of (named (fields.two bs a)) (fields.one bs (a + 2) == 1)
 
 -- a thread at a place
 abbrev pub thread : List ℕ → ℕ → w.Object Cpu

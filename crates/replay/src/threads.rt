@@ -24,10 +24,7 @@ fn mapping(bytes: &[u8], at: usize) -> Mapping
     requires { at + 2 < 2 ^ 64 }
     ensures { result ≡ reading.mapping bytes.now at }
 {
-    Mapping {
-        page: named(bytes, at),
-        writes: one(bytes, at + 2) == 1,
-    }
+    Mapping::new(named(bytes, at), one(bytes, at + 2) == 1)
 }
 
 // The 64 pages of a space from `at` on.
@@ -36,11 +33,7 @@ fn space(bytes: &[u8], at: usize) -> [Mapping; 64]
     ensures pages { map page_of result ≡ meaning.pages_from bytes.now 64 at }
     ensures marks { map may_write result ≡ meaning.marks_from bytes.now 64 at }
 {
-    let none = Mapping {
-        page: None,
-        writes: false,
-    };
-    let mut pages = [none; 64];
+    let mut pages = [Mapping::new(None, false); 64];
     for (k, page) in pages.iter_mut().enumerate() {
         *page = mapping(bytes, at + 3 * k);
     }
