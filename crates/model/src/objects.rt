@@ -97,7 +97,7 @@ pub enum Object {
 pub struct World {
     pub objects: Vec<Object>,
     pub births: u64,
-    pub lineage: Vec<Capability>,
+    pub lineage: Vec<Option<Capability>>,
 }
 
 // A world is the lists of what its vectors hold.
