@@ -8,7 +8,7 @@ use Rattle.rv32.specs.Registers.{fresh}
 use Rattle.rv32.specs.Execute.{act}
 use Rattle.model.specs.declared.objects.Capability.{Capability}
 use Rattle.model.specs.Plain as p
-use Rattle.model.specs.Meaning.{cap_of, slot_of, number_of, object_of, world_of}
+use Rattle.model.specs.Meaning.{slot_of, number_of, object_of, world_of}
 
 -- the abstract world's functions, at the core
 abbrev pub object : w.World Cpu → ℕ → w.Object Cpu
@@ -62,7 +62,7 @@ at_world v n = read_any object_of v.things n p.gone
 
 pub put_world : (v : p.Whole) (n : ℕ) (x : p.Thing) → world_of (p.with_object v n x) ≡ with_object (world_of v) n (object_of x)
 unfolding p.with_object w.with_object
-put_world v n x = ap (λ xs. record { objects = xs; births = v.births; lineage = reverse (map cap_of v.lineage) }) (map-set object_of v.things n x)
+put_world v n x = ap (λ xs. record { objects = xs; births = v.births; lineage = reverse (map slot_of v.lineage) }) (map-set object_of v.things n x)
 
 pub same_object : (v : w.World Cpu) (o : ℕ) → with_object v o (object v o) ≡ v
 unfolding w.object w.with_object

@@ -1,7 +1,5 @@
 -- The marks of the lineage are the abstract world's offspring, and the marks of the objects are what was cut.
 use Rattle.std.proofs.Common.{◌≡◌, ℕ, zero, suc, ◌+◌, ◌-◌, ◌<◌, ◌≤◌, Bool, false, cond, not, ◌&&◌, ◌||◌, eqb, ltb, ◌⊎◌, List, [], ◌∷◌, ◌++◌, map, reverse, length, get_or, take, Some, None, Option, sym, refl, ap, ◌∙◌, subst, inl, inr, arith}
-use Rattle.std.specs.List.{slice_get}
-use Rattle.std.proofs.lemmas.Option.{slice_get_cases}
 use Rattle.std.proofs.lemmas.List.{get_or_past, get_or-take, reverse-append, length-map}
 use Rattle.std.proofs.lemmas.Bool.{cases_lt, cases_eq, lt-ltb, le-ltb}
 use Rattle.rights.specs.World as w
@@ -12,7 +10,7 @@ use Rattle.model.specs.declared.objects.Capability.{Capability}
 use Rattle.model.specs.Plain as p
 use Rattle.model.specs.Sweeps.{scan, marked, mark_of, base_of, marks, cut_mark}
 use Rattle.model.specs.Sound.{Dense, Sound}
-use Rattle.model.specs.Meaning.{cap_of, number_of, object_of, world_of}
+use Rattle.model.specs.Meaning.{slot_of, number_of, object_of, world_of}
 use Rattle.model.proofs.Agree.{less_one, not_zero}
 use Rattle.model.proofs.Descent.{Made, Orderly, up_by, test_is}
 use Rattle.model.proofs.Scans.{scan_long, scan_all}
@@ -39,52 +37,54 @@ made_right [] ys m c h = h
 made_right (w.empty ∷ xs) ys m c h = made_right xs ys m c h
 made_right (w.cap o r b i j ∷ xs) ys m c h = inr (made_right xs ys m c h)
 
-newest : List Capability → List w.Slot
-newest xs = reverse (map cap_of xs)
+newest : List (Option Capability) → List w.Slot
+newest xs = reverse (map slot_of xs)
 
-newest_cons : (x : Capability) (xs : List Capability) → newest (x ∷ xs) ≡ newest xs ++ cap_of x ∷ []
+newest_cons : (x : Option Capability) (xs : List (Option Capability)) → newest (x ∷ xs) ≡ newest xs ++ slot_of x ∷ []
 unfolding newest
-newest_cons x xs = reverse-append (cap_of x ∷ []) (map cap_of xs)
+newest_cons x xs = reverse-append (slot_of x ∷ []) (map slot_of xs)
 
 abbrev mother_in : Option Capability → Option ℕ
 mother_in x = p.on_some x None (λ d. Some d.mother)
 
-abbrev mother_at : ℕ → List Capability → ℕ → Option ℕ
-mother_at top xs c = cond (ltb top c) (mother_in (slice_get xs (c - suc top))) None
+abbrev mother_at : ℕ → List (Option Capability) → ℕ → Option ℕ
+mother_at top xs c = cond (ltb top c) (mother_in (get_or xs (c - suc top) None)) None
 
 -- who was made from whom, by places
-fits : (top : ℕ) (xs : List Capability) → Dense top xs → (m c : ℕ) → Made (newest xs) m c → (top < c) × (c ≤ top + length xs) × (m < c) × (mother_in (slice_get xs (c - suc top)) ≡ Some m)
+fits : (top : ℕ) (xs : List (Option Capability)) → Dense top xs → (m c : ℕ) → Made (newest xs) m c → (top < c) × (c ≤ top + length xs) × (m < c) × (mother_in (get_or xs (c - suc top) None) ≡ Some m)
 unfolding Dense Made newest
 fits top [] d m c h = absurd h
-fits top (x ∷ xs) d m c h =
-    elim (made_append (newest xs) (cap_of x ∷ []) m c (subst (λ l. Made l m c) (newest_cons x xs) h)) [
+fits top (None ∷ xs) d m c h = absurd d
+fits top (Some x ∷ xs) d m c h =
+    elim (made_append (newest xs) (slot_of (Some x) ∷ []) m c (subst (λ l. Made l m c) (newest_cons (Some x) xs) h)) [
       | inl k ↦
           (let r = fits (suc top) xs d.2 m c k in
           let e : c - suc top ≡ suc (c - suc (suc top)) = omega (arith, r.0) in
-          (omega (arith, r.0), omega (arith, r.1), r.2, ap (λ i. mother_in (slice_get (x ∷ xs) i)) e ∙ r.3))
+          (omega (arith, r.0), omega (arith, r.1), r.2, ap (λ i. mother_in (get_or (Some x ∷ xs) i None)) e ∙ r.3))
       | inr k ↦
           elim k [
             | inl q ↦
                 (let e : c - suc top ≡ 0 = omega (arith, q.1, d.0) in
-                (omega (arith, q.1, d.0), omega (arith, q.1, d.0), omega (arith, q.0, q.1, d.0, d.1), ap (λ i. mother_in (slice_get (x ∷ xs) i)) e ∙ ap Some q.0))
+                (omega (arith, q.1, d.0), omega (arith, q.1, d.0), omega (arith, q.0, q.1, d.0, d.1), ap (λ i. mother_in (get_or (Some x ∷ xs) i None)) e ∙ ap Some q.0))
             | inr q ↦ absurd q
           ]
     ]
 
-backs : (top : ℕ) (xs : List Capability) → Dense top xs → (m c : ℕ) → top < c → mother_in (slice_get xs (c - suc top)) ≡ Some m → Made (newest xs) m c
+backs : (top : ℕ) (xs : List (Option Capability)) → Dense top xs → (m c : ℕ) → top < c → mother_in (get_or xs (c - suc top) None) ≡ Some m → Made (newest xs) m c
 unfolding Dense Made newest
 backs top [] d m c l h = cc
-backs top (x ∷ xs) d m c l h =
+backs top (None ∷ xs) d m c l h = absurd d
+backs top (Some x ∷ xs) d m c l h =
     elim (cases_eq c (suc top)) [
       | inl e ↦
           (let i : c - suc top ≡ 0 = omega arith in
-          let q : Some x.mother ≡ Some m = sym (ap (λ k. mother_in (slice_get (x ∷ xs) k)) i) ∙ h in
+          let q : Some x.mother ≡ Some m = sym (ap (λ k. mother_in (get_or (Some x ∷ xs) k None)) i) ∙ h in
           let n : x.mother ≡ m = cc in
-          subst (λ l. Made l m c) (sym (newest_cons x xs)) (made_right (newest xs) (cap_of x ∷ []) m c (inl (n, d.0 ∙ sym e))))
+          subst (λ l. Made l m c) (sym (newest_cons (Some x) xs)) (made_right (newest xs) (slot_of (Some x) ∷ []) m c (inl (n, d.0 ∙ sym e))))
       | inr n ↦
           (let i : c - suc top ≡ suc (c - suc (suc top)) = omega (arith, n) in
-          let q : mother_in (slice_get xs (c - suc (suc top))) ≡ Some m = sym (ap (λ k. mother_in (slice_get (x ∷ xs) k)) i) ∙ h in
-          subst (λ l. Made l m c) (sym (newest_cons x xs)) (made_left (newest xs) (cap_of x ∷ []) m c (backs (suc top) xs d.2 m c (omega (arith, n)) q)))
+          let q : mother_in (get_or xs (c - suc (suc top)) None) ≡ Some m = sym (ap (λ k. mother_in (get_or (Some x ∷ xs) k None)) i) ∙ h in
+          subst (λ l. Made l m c) (sym (newest_cons (Some x) xs)) (made_left (newest xs) (slot_of (Some x) ∷ []) m c (backs (suc top) xs d.2 m c (omega (arith, n)) q)))
     ]
 
 -- marks of a front are the marks, for those before its end
@@ -96,37 +96,30 @@ marked_front base ms k m h =
     ]
 
 -- a mark goes up by the mother
-mark_up : (root base : ℕ) (ms : List Bool) (x : Capability) (g : ℕ → Bool) → marked base ms x.mother ≡ g x.mother → mark_of root base ms x ≡ up_by root g (Some x.mother)
-mark_up root base ms x g h = ap (λ b. eqb x.mother root || b) h
+mark_up : (root base : ℕ) (ms : List Bool) (x : Option Capability) (g : ℕ → Bool) → ((m : ℕ) → mother_in x ≡ Some m → marked base ms m ≡ g m) → mark_of root base ms x ≡ up_by root g (mother_in x)
+mark_up root base ms None g h = refl
+mark_up root base ms (Some d) g h = ap (λ b. eqb d.mother root || b) (h d.mother refl)
 
-module _ (root base : ℕ) (xs : List Capability) (d : Dense base xs) where
+module _ (root base : ℕ) (xs : List (Option Capability)) (d : Dense base xs) where
   abbrev all : List Bool
   all = scan (mark_of root base) [] xs
 
   all_length : length all ≡ length xs
   all_length = scan_long (mark_of root base) xs
 
-  -- the mark at a place that has a capability, and at one past the end
-  up_at : (c : ℕ) (x : Capability) → base < c → c - suc base < length xs → slice_get xs (c - suc base) ≡ Some x → get_or xs (c - suc base) x ≡ x →
-      get_or all (c - suc base) false ≡ up_by root (marked base all) (mother_in (slice_get xs (c - suc base)))
-  up_at c x l h e r =
-      let b = backs base xs d x.mother c l (ap mother_in e) in
-      let f = fits base xs d x.mother c b in
-      scan_all (mark_of root base) xs (c - suc base) x h ∙ ap (mark_of root base (take (c - suc base) all)) r
-      ∙ mark_up root base (take (c - suc base) all) x (marked base all) (marked_front base all (c - suc base) x.mother (omega (arith, f.2)))
-      ∙ sym (ap (λ y. up_by root (marked base all) (mother_in y)) e)
-
-  up_past : (k : ℕ) → length xs ≤ k → slice_get xs k ≡ None → get_or all k false ≡ up_by root (marked base all) (mother_in (slice_get xs k))
-  up_past k h e = get_or_past all k false (omega (arith, all_length, h)) ∙ sym (ap (λ y. up_by root (marked base all) (mother_in y)) e)
-
   up : (c : ℕ) → marked base all c ≡ up_by root (marked base all) (mother_at base xs c)
   up c =
       elim (cases_lt base c) [
         | inl l ↦
             rw (lt-ltb base c l)
-            (elim ((slice_get_cases xs (c - suc base)).1) [
-              | inl h ↦ up_at c h.0 l h.1 h.2 h.3
-              | inr h ↦ up_past (c - suc base) h.0 h.1
+            (elim (cases_lt (c - suc base) (length xs)) [
+              | inl h ↦
+                  scan_all (mark_of root base) xs (c - suc base) None h
+                  ∙ mark_up root base (take (c - suc base) all) (get_or xs (c - suc base) None) (marked base all)
+                  (λ m e. let b = backs base xs d m c l e in let f = fits base xs d m c b in marked_front base all (c - suc base) m (omega (arith, f.2)))
+              | inr h ↦
+                  get_or_past all (c - suc base) false (omega (arith, all_length, h))
+                  ∙ sym (ap (λ x. up_by root (marked base all) (mother_in x)) (get_or_past xs (c - suc base) None h))
             ])
         | inr l ↦ rw (le-ltb base c l) refl
       ]

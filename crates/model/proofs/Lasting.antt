@@ -114,7 +114,7 @@ move_sound v so q s d =
     (λ c e. by_cond EndsSound (p.free v q d) _ _
     (slot_sound (p.with_slot v q d (Some c)) q s None (slot_sound v q d (Some c) so (held_low v so q s c e)) (none_low (p.with_slot v q d (Some c)))) so)
 
-child_low : (v : p.Whole) (c : Capability) → c.birth ≡ suc v.births → Low (calls.born v c) (Some c)
+child_low : (v : p.Whole) (c : Capability) → c.birth ≡ suc v.births → Low (calls.born v (Some c)) (Some c)
 child_low v c b d e = let z : c ≡ d = cc in let k : d.birth ≡ suc v.births = ap (λ x. x.birth) (sym z) ∙ b in omega (arith, k)
 
 copy_sound : (v : p.Whole) → Sound v → (q s d : ℕ) (r : Rights) (b : ℕ) → EndsSound (calls.copy v q s d r b)
@@ -122,7 +122,7 @@ copy_sound v so q s d r b =
     by_some EndsSound (p.slot v q s) (p.refuse v) _ so
     (λ c e. by_cond EndsSound (calls.hands c && p.free v q d) _ _
     (let k = calls.copied c r b (suc v.births) in
-    slot_sound (calls.born v k) q d (Some k) (born_sound v k so refl (held_low v so q s c e c refl)) (child_low v k refl)) so)
+    slot_sound (calls.born v (Some k)) q d (Some k) (born_sound v k so refl (held_low v so q s c e c refl)) (child_low v k refl)) so)
 
 -- PORTS
 resumed_sound : (v : p.Whole) → Sound v → (t : ℕ) (a : Answer) → Sound (calls.resumed v t a)

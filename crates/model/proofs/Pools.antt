@@ -107,14 +107,14 @@ cut_world v q o m k d f n a =
     q d (w.cap (length v.objects) (w.all_rights Cpu fresh act) 0 (suc v.births) m)
 
 cut_done_is : (v : p.Whole) (q o m : ℕ) (k : NewObject) (d : ℕ) (f : Option ℕ) (n u a : ℕ) → p.pool f n u ≡ p.object v o → Tabled v q →
-    world_of (p.with_slot (calls.born (calls.grown (p.with_object v o (p.pool f n a)) (calls.new_thing o k)) (calls.newborn v m)) q d (Some (calls.newborn v m)))
+    world_of (p.with_slot (calls.born (calls.grown (p.with_object v o (p.pool f n a)) (calls.new_thing o k)) (Some (calls.newborn v m))) q d (Some (calls.newborn v m)))
     ≡ cut_world (world_of v) q o m (kind_of k) d (number_of f) n a
 cut_done_is v q o m k d f n u a e t =
     let x = calls.newborn v m in
     let u₁ = calls.grown (p.with_object v o (p.pool f n a)) (calls.new_thing o k) in
     let t₁ = grown_tabled (p.with_object v o (p.pool f n a)) (calls.new_thing o k) q (pool_tabled v o q a f n u e t) in
-    with_world (calls.born u₁ x) q d (Some x) (born_tabled u₁ x q t₁)
-    ∙ ap (λ y. with_slot y q d (cap_of x)) (born_world u₁ x ∙ ap (λ y. record { objects = y.objects; births = suc y.births; lineage = cap_of x ∷ y.lineage }) (grown_world v o (p.pool f n a) (calls.new_thing o k)))
+    with_world (calls.born u₁ (Some x)) q d (Some x) (born_tabled u₁ (Some x) q t₁)
+    ∙ ap (λ y. with_slot y q d (cap_of x)) (born_world u₁ (Some x) ∙ ap (λ y. record { objects = y.objects; births = suc y.births; lineage = cap_of x ∷ y.lineage }) (grown_world v o (p.pool f n a) (calls.new_thing o k)))
     ∙ ap (λ y. with_slot (record { objects = set (world_of v).objects o (w.pool (number_of f) n a) ++ y ∷ []; births = suc v.births; lineage = cap_of x ∷ (world_of v).lineage }) q d (cap_of x)) (made_is o k)
     ∙ ap (λ y. with_slot (record { objects = set (world_of v).objects o (w.pool (number_of f) n a) ++ w.made Cpu fresh act sizes (suc o) (kind_of k) ∷ []; births = suc v.births; lineage = y ∷ (world_of v).lineage }) q d y) (newborn_is v m)
 
@@ -124,7 +124,7 @@ room_by : (v : p.Whole) (q o m : ℕ) (k : NewObject) (d : ℕ) (f : Option ℕ)
     ≡ w.pick (not b) (refused (world_of v)) (goes (cut_world (world_of v) q o m (kind_of k) d (number_of f) n (calls.used_after k u)) (0 ∷ []))
 room_by v q o m k d f n u true e t =
     ap (λ y. goes y (0 ∷ []))
-    (ap (λ x. world_of (p.with_slot (calls.born (calls.grown (p.with_object v o (cuts.with_used (calls.used_after k u) x)) (calls.new_thing o k)) (calls.newborn v m)) q d (Some (calls.newborn v m)))) (sym e)
+    (ap (λ x. world_of (p.with_slot (calls.born (calls.grown (p.with_object v o (cuts.with_used (calls.used_after k u) x)) (calls.new_thing o k)) (Some (calls.newborn v m))) q d (Some (calls.newborn v m)))) (sym e)
     ∙ cut_done_is v q o m k d f n u (calls.used_after k u) e t)
 room_by v q o m k d f n u false e t = refl
 

@@ -16,7 +16,7 @@ use Rattle.model.specs.Plain as p
 use Rattle.model.specs.Calls as calls
 use Rattle.model.specs.Sound.{Sound}
 use Rattle.model.specs.Sweeps.{Marks, takes, takes_birth, marks_for, scan, cut_mark, cut_marks, kept_slot, kept_slots, who, kept_waits, kept_number, kept_pages, at_marked, kept, at_each, kept_at, swept, refilled, revoked, revoke}
-use Rattle.model.specs.Meaning.{page_of, may_write, cap_of, slot_of, number_of, state_of, core_of, wait_of, object_of, world_of, went_of}
+use Rattle.model.specs.Meaning.{page_of, may_write, slot_of, number_of, state_of, core_of, wait_of, object_of, world_of, went_of}
 use Rattle.model.proofs.Agree.{object, with_object, slot, Went, goes, less_one, not_zero, at_world, put_world, slot_world}
 use Rattle.model.proofs.Same.{does, refused, unchanged}
 use Rattle.model.proofs.Kin.{births_is, cuts_is}
@@ -130,7 +130,7 @@ module _ (k : Marks) (ids gone : List ℕ) (b : (c : ℕ) → takes_birth k c �
 
   pub swept_is : (v : p.Whole) → world_of (swept v k) ≡ w.cleared Cpu fresh act (world_of v) ids gone
   unfolding w.cleared
-  swept_is v = ap (λ xs. record { objects = xs; births = v.births; lineage = reverse (map cap_of v.lineage) }) (all_are 0 v.things)
+  swept_is v = ap (λ xs. record { objects = xs; births = v.births; lineage = reverse (map slot_of v.lineage) }) (all_are 0 v.things)
 
 -- a pool of which nothing is used; anything else stays
 refilled_is : (x : p.Thing) → object_of (refilled x) ≡ w.refilled Cpu fresh act (object_of x)

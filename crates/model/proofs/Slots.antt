@@ -88,17 +88,17 @@ abbrev grown_lineage : w.World Cpu → w.Slot → w.World Cpu
 grown_lineage v x = record { objects = v.objects; births = suc v.births; lineage = x ∷ v.lineage }
 
 -- one more capability was made
-pub born_world : (v : p.Whole) (x : Capability) → world_of (calls.born v x) ≡ grown_lineage (world_of v) (cap_of x)
+pub born_world : (v : p.Whole) (x : Option Capability) → world_of (calls.born v x) ≡ grown_lineage (world_of v) (slot_of x)
 born_world v x =
-    ap (λ l. record { objects = map object_of v.things; births = suc v.births; lineage = l }) (sym (push_reverse cap_of v.lineage x))
+    ap (λ l. record { objects = map object_of v.things; births = suc v.births; lineage = l }) (sym (push_reverse slot_of v.lineage x))
 
-pub born_tabled : (v : p.Whole) (x : Capability) (q : ℕ) → Tabled v q → Tabled (calls.born v x) q
+pub born_tabled : (v : p.Whole) (x : Option Capability) (q : ℕ) → Tabled v q → Tabled (calls.born v x) q
 unfolding p.object
 born_tabled v x q h = h
 
 copy_done : (v : p.Whole) (q d : ℕ) (x : Capability) → Tabled v q →
-    world_of (p.with_slot (calls.born v x) q d (Some x)) ≡ with_slot (grown_lineage (world_of v) (cap_of x)) q d (cap_of x)
-copy_done v q d x t = with_world (calls.born v x) q d (Some x) (born_tabled v x q t) ∙ ap (λ u. with_slot u q d (cap_of x)) (born_world v x)
+    world_of (p.with_slot (calls.born v (Some x)) q d (Some x)) ≡ with_slot (grown_lineage (world_of v) (cap_of x)) q d (cap_of x)
+copy_done v q d x t = with_world (calls.born v (Some x)) q d (Some x) (born_tabled v (Some x) q t) ∙ ap (λ u. with_slot u q d (cap_of x)) (born_world v (Some x))
 
 -- the same with a right before it
 pub by_right : (a t u : Bool) (x y : p.Ended) (k l : Went) → t ≡ u → (t ≡ true → went_of x ≡ k) → went_of y ≡ l → went_of (cond (a && t) x y) ≡ w.pick (not a || not u) l k
@@ -107,7 +107,7 @@ by_right false t u x y k l e good bad = bad
 
 copy_with : (v : p.Whole) (q s d : ℕ) (r : Rights) (b : ℕ) (x : Option Capability) → x ≡ p.slot v q s →
     went_of (p.on_some x (p.refuse v)
-    (λ c. cond (calls.hands c && p.free v q d) (p.done (p.with_slot (calls.born v (calls.copied c r b (suc v.births))) q d (Some (calls.copied c r b (suc v.births))))) (p.refuse v)))
+    (λ c. cond (calls.hands c && p.free v q d) (p.done (p.with_slot (calls.born v (Some (calls.copied c r b (suc v.births)))) q d (Some (calls.copied c r b (suc v.births))))) (p.refuse v)))
     ≡ does (world_of v) q (w.copy s d (rights_of r) b)
 unfolding w.does w.is_empty w.slot_rights w.refuse
 copy_with v q s d r b None e = rw (sym (slot_world v q s), sym e) refl

@@ -60,17 +60,18 @@ pub none_low : (v : p.Whole) → Low v None
 none_low v c e = absurd (none_some c e)
 
 -- BIRTHS. One more capability, born now
-dense_more : (top : ℕ) (xs : List Capability) (c : Capability) → Dense top xs → c.birth ≡ suc (top + length xs) → c.mother ≤ top + length xs → Dense top (xs ++ c ∷ [])
+dense_more : (top : ℕ) (xs : List (Option Capability)) (c : Capability) → Dense top xs → c.birth ≡ suc (top + length xs) → c.mother ≤ top + length xs → Dense top (xs ++ Some c ∷ [])
 unfolding Dense
 dense_more top [] c d b m = (omega (arith, b), omega (arith, m), tt)
-dense_more top (x ∷ xs) c d b m = (d.0, d.1, dense_more (suc top) xs c d.2 (omega (arith, b)) (omega (arith, m)))
+dense_more top (None ∷ xs) c d b m = absurd d
+dense_more top (Some x ∷ xs) c d b m = (d.0, d.1, dense_more (suc top) xs c d.2 (omega (arith, b)) (omega (arith, m)))
 
-pub born_sound : (v : p.Whole) (c : Capability) → Sound v → c.birth ≡ suc v.births → c.mother ≤ v.births → Sound (calls.born v c)
+pub born_sound : (v : p.Whole) (c : Capability) → Sound v → c.birth ≡ suc v.births → c.mother ≤ v.births → Sound (calls.born v (Some c))
 unfolding p.object
 born_sound v c so b m =
     let n = so.counted in
-    let len : length (v.lineage ++ c ∷ []) ≡ length v.lineage + 1 = length-append v.lineage (c ∷ []) in
-    let base : base_of (calls.born v c) ≡ base_of v = omega (arith, len) in
+    let len : length (v.lineage ++ Some c ∷ []) ≡ length v.lineage + 1 = length-append v.lineage (Some c ∷ []) in
+    let base : base_of (calls.born v (Some c)) ≡ base_of v = omega (arith, len) in
     record {
       dense = rw base (dense_more (base_of v) v.lineage c so.dense (omega (arith, b, n)) (omega (arith, m, n)));
       counted = omega (arith, len, n);

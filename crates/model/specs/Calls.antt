@@ -69,7 +69,7 @@ abbrev pub move : Whole → ℕ → ℕ → ℕ → Ended
 move w p s d = on_some (slot w p s) (refuse w) (λ c. cond (free w p d) (done (with_slot (with_slot w p d (Some c)) p s None)) (refuse w))
 
 -- one more capability was made
-abbrev pub born : Whole → Capability → Whole
+abbrev pub born : Whole → Option Capability → Whole
 born w x = record { things = w.things; births = suc w.births; lineage = w.lineage ++ x ∷ [] }
 
 abbrev pub copied : Capability → Rights → ℕ → ℕ → Capability
@@ -78,7 +78,7 @@ copied c r b i = record { object = c.object; rights = met c.rights r; badge = co
 abbrev pub copy : Whole → ℕ → ℕ → ℕ → Rights → ℕ → Ended
 copy w p s d r b =
     on_some (slot w p s) (refuse w)
-    (λ c. cond (hands c && free w p d) (done (with_slot (born w (copied c r b (suc w.births))) p d (Some (copied c r b (suc w.births))))) (refuse w))
+    (λ c. cond (hands c && free w p d) (done (with_slot (born w (Some (copied c r b (suc w.births)))) p d (Some (copied c r b (suc w.births))))) (refuse w))
 
 -- THREADS: go, bind, map, unmap
 abbrev pub is_stopped : State → Bool

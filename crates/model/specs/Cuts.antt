@@ -22,7 +22,7 @@ with_used v x = on_pool x x (λ f n u. pool f n v)
 -- the world once an object is cut
 abbrev pub cut_done : Whole → ℕ → ℕ → ℕ → NewObject → ℕ → ℕ → Whole
 cut_done w p o m k d after =
-    with_slot (born (grown (with_object w o (with_used after (object w o))) (new_thing o k)) (newborn w m)) p d (Some (newborn w m))
+    with_slot (born (grown (with_object w o (with_used after (object w o))) (new_thing o k)) (Some (newborn w m))) p d (Some (newborn w m))
 
 abbrev pub cut_by : Whole → ℕ → ℕ → ℕ → NewObject → ℕ → Option ℕ → Ended
 cut_by w p o m k d after = on_some after (refuse w) (λ after. done (cut_done w p o m k d after))

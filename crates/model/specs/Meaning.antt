@@ -62,7 +62,7 @@ object_of (p.line a b) = w.line a b
 
 -- the lineage of the abstract world has the newest first
 abbrev pub world_of : p.Whole → w.World Cpu
-world_of v = record { objects = map object_of v.things; births = v.births; lineage = reverse (map cap_of v.lineage) }
+world_of v = record { objects = map object_of v.things; births = v.births; lineage = reverse (map slot_of v.lineage) }
 
 -- how a call ends
 abbrev pub went_of : p.Ended → w.Went Cpu fresh act

@@ -32,7 +32,7 @@ pub data Thing : Type 0 where
 pub record Whole : Type 0 where
   pub things : List Thing
   pub births : ℕ
-  pub lineage : List Capability
+  pub lineage : List (Option Capability)
 
 -- what the program's values are
 abbrev pub thing : Object → Thing

@@ -1,5 +1,5 @@
 -- What holds of every world that comes about: the program's ways of finding things rest on it. Assumes nothing: these are definitions.
-use Rattle.std.specs.Prelude.{◌≡◌, ℕ, suc, ◌+◌, ◌<◌, ◌≤◌, true, List, [], ◌∷◌, length, Some, Option}
+use Rattle.std.specs.Prelude.{◌≡◌, ℕ, suc, ◌+◌, ◌<◌, ◌≤◌, true, List, [], ◌∷◌, length, Some, None, Option}
 use Rattle.model.specs.declared.objects.Capability.{Capability}
 use Rattle.model.specs.declared.objects.Thread.{Thread}
 use Rattle.model.specs.Plain.{page, thread, Whole, page_at, object, from_of, slot_at}
@@ -7,9 +7,10 @@ use Rattle.model.specs.Calls.{is_page}
 use Rattle.model.specs.Sweeps.{base_of}
 
 -- capabilities with births one after the other from top on, each made from one that was born before
-unfoldable pub Dense : ℕ → List Capability → Type 0
+unfoldable pub Dense : ℕ → List (Option Capability) → Type 0
 Dense top [] = Unit {0}
-Dense top (c ∷ xs) = (c.birth ≡ suc top) × (c.mother ≤ top) × Dense (suc top) xs
+Dense top (None ∷ xs) = ⊥
+Dense top (Some c ∷ xs) = (c.birth ≡ suc top) × (c.mother ≤ top) × Dense (suc top) xs
 
 pub record Sound (v : Whole) : Type 0 where
   -- the lineage has the last births, one after the other

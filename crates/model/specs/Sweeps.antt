@@ -22,8 +22,8 @@ abbrev pub marked : ℕ → List Bool → ℕ → Bool
 marked base ms i = cond (nat_lt base i) (slice_index_or ms (i - suc base) false) false
 
 -- a capability is marked if it was made from the root or from one that is marked
-abbrev pub mark_of : ℕ → ℕ → List Bool → Capability → Bool
-mark_of root base ms c = (c.mother == root) || marked base ms c.mother
+abbrev pub mark_of : ℕ → ℕ → List Bool → Option Capability → Bool
+mark_of root base ms x = on_some x false (λ c. (c.mother == root) || marked base ms c.mother)
 
 -- the births before the first of the lineage
 abbrev pub base_of : Whole → ℕ

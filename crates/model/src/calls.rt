@@ -65,7 +65,7 @@ impl World {
     }
 
     // One more capability was made.
-    pub fn bear(&mut self, child: Capability) -> Result<(), Fault>
+    pub fn bear(&mut self, child: Option<Capability>) -> Result<(), Fault>
         ensures { OnOk result (plain.plain self.new ≡ calls.born (plain.plain self.old) child) }
     {
         self.births = self.next_birth()?;
@@ -88,7 +88,7 @@ impl World {
             return Err(CallError::Refused);
         }
         let child = copied(c, rights, badge, self.next_birth()?);
-        self.bear(child)?;
+        self.bear(Some(child))?;
         self.put_slot(p, d, Some(child));
         Ok(())
     }

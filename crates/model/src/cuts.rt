@@ -157,7 +157,7 @@ impl World {
             pool.set_used(after);
         }
         self.add(it)?;
-        self.bear(child)?;
+        self.bear(Some(child))?;
         self.put_slot(p, d, Some(child));
         Ok(())
     }

@@ -99,11 +99,11 @@ pub fn marked(base: u64, marks: &[bool], birth: u64) -> bool
     }
 }
 
-// Whether a capability was made from the root, or from one that has a mark.
-fn mark_of(root: u64, base: u64, marks: &[bool], c: &Capability) -> bool
-    ensures { result ≡ sweeps.mark_of root base marks.now c.now }
+// Whether there is a capability that was made from the root, or from one that has a mark.
+fn mark_of(root: u64, base: u64, marks: &[bool], x: &Option<Capability>) -> bool
+    ensures { result ≡ sweeps.mark_of root base marks.now x.now }
 {
-    c.mother == root || marked(base, marks, c.mother)
+    x.is_some_and(|c| c.mother == root || marked(base, marks, c.mother))
 }
 
 // A mark for each item, by the marks before it.

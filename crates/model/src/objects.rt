@@ -100,7 +100,7 @@ const _: () = prove!(size_of::<Object>() <= 1200);
 pub struct World {
     pub objects: Vec<Object>,
     pub births: u64,
-    pub lineage: Vec<Capability>,
+    pub lineage: Vec<Option<Capability>>,
 }
 
 // Memory is used up, or numbers are.

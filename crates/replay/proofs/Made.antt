@@ -85,7 +85,7 @@ pub births_begin : (xs : List Object) → xs ≡ [] → m.births_all (shown xs) 
 unfolding m.births_all
 births_begin xs e = rw e refl
 
-pub made : (bs : List ℕ) (xs : List Object) (b : ℕ) (l : List Capability) → shown xs ≡ m.objects_of bs → m.births_all (shown xs) ≡ b → l ≡ [] →
+pub made : (bs : List ℕ) (xs : List Object) (b : ℕ) (l : List (Option Capability)) → shown xs ≡ m.objects_of bs → m.births_all (shown xs) ≡ b → l ≡ [] →
     world_of (record { things = map thing xs; births = b; lineage = l }) ≡ m.world_of bs
 made bs xs b l e h n =
     let k : b ≡ m.births_all (m.objects_of bs) = sym h ∙ ap m.births_all e in

@@ -65,11 +65,11 @@ page_back (p.page f ys) g bs e = refl
 page_back (p.thread t) g bs e = cc
 page_back (p.line xs ys) g bs e = cc
 
-none_made : (xs : List Capability) → reverse (map cap_of xs) ≡ [] → xs ≡ []
+none_made : (xs : List (Option Capability)) → reverse (map slot_of xs) ≡ [] → xs ≡ []
 none_made xs e =
-    let l : length (reverse (map cap_of xs)) ≡ 0 = ap length e in
-    let m : length (map cap_of xs) ≡ length xs = rw length-map refl in
-    nil_from_length xs (sym m ∙ sym (length-reverse (map cap_of xs)) ∙ l)
+    let l : length (reverse (map slot_of xs)) ≡ 0 = ap length e in
+    let m : length (map slot_of xs) ≡ length xs = rw length-map refl in
+    nil_from_length xs (sym m ∙ sym (length-reverse (map slot_of xs)) ∙ l)
 
 module _ (v : p.Whole) (allowed : Allowed sizes (world_of v)) where
   -- an object is new, or was never there
