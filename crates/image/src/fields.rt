@@ -26,8 +26,7 @@ pub fn two(bytes: &[u8], at: usize) -> u16
 pub fn end_of(bytes: &[u8], at: usize, n: usize) -> Option<usize>
     ensures { result ≡ fields.end_of bytes.now at n }
 {
-    let last = bytes.len().checked_sub(n)?;
-    if at > last {
+    if n > bytes.len() || at > bytes.len() - n {
         return None;
     }
     Some(at + n)
