@@ -67,7 +67,7 @@ impl Image<'_> {
     }
 
     // The same by the event's own kind. Each kind has a call of its own, so that its width is a constant
-    // in it: a row takes twice the time where the kind is passed on.
+    // there, and the event's bytes are looked for once.
     fn event_end(&self, events: &[u8], at: usize) -> Option<usize>
         ensures { ok_or result (Event at) ≡ rows.event self.now.bytes.now self.now.objects events.now at }
     {
