@@ -17,3 +17,4 @@ pub mod Keeping
 pub mod Kept
 pub mod Stays
 pub mod Lasting
+pub mod Full

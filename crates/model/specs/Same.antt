@@ -8,11 +8,11 @@ use Rattle.rv32.specs.declared.registers.Cpu.{Cpu}
 use Rattle.rv32.specs.Registers.{fresh}
 use Rattle.rv32.specs.declared.steps.Step.{Step}
 use Rattle.rv32.specs.Execute.{act}
-use Rattle.model.specs.Plain.{Whole, object, with_object}
+use Rattle.model.specs.Plain.{Whole, object, with_object, Ended, on, wait}
 use Rattle.model.specs.Calls.{comes_in}
 use Rattle.model.specs.Turns.{does, told_of, next_act, Ticked}
 use Rattle.model.specs.Says.{says_next}
-use Rattle.model.specs.Sound.{Sound}
+use Rattle.model.specs.Sound.{Sound, LineageFull}
 use Rattle.model.specs.Meaning.{sizes, world_of, went_of}
 
 -- every call does what the abstract world does
@@ -50,3 +50,17 @@ SaysAgree =
 -- and there always is something left, of an instruction's time and of a whole row
 abbrev pub AlwaysLeft : Type 0
 AlwaysLeft = ((v : Whole) (p : ℕ) → (u : Whole) × Ticked v p u) × ((v : Whole) (es : List w.Event) → (u : Whole) × Ran v es u)
+
+-- the world that a call leaves
+abbrev pub left_by : Ended → Whole
+left_by (on v a) = v
+left_by (wait v o) = v
+
+-- a sound world's lineage has no empty entry; and where it has none, none comes about, whether the world is sound or not
+abbrev pub StaysFull : Type 0
+StaysFull =
+    ((v : Whole) → Sound v → LineageFull v)
+    × ((v : Whole) → LineageFull v → (p : ℕ) (c : Call) → LineageFull (left_by (does v p c)))
+    × ((v u : Whole) → LineageFull v → (p : ℕ) → Ticked v p u → LineageFull u)
+    × ((v : Whole) → LineageFull v → (o b : ℕ) → LineageFull (with_object v o (comes_in b (object v o))))
+    × ((v u : Whole) → LineageFull v → (es : List w.Event) → Ran v es u → LineageFull u)

@@ -1,5 +1,5 @@
 -- What holds of every world that comes about: the program's ways of finding things rest on it. Assumes nothing: these are definitions.
-use Rattle.std.specs.Prelude.{◌≡◌, ℕ, suc, ◌+◌, ◌<◌, ◌≤◌, true, List, [], ◌∷◌, length, Some, None, Option}
+use Rattle.std.specs.Prelude.{◌≡◌, ℕ, suc, ◌+◌, ◌<◌, ◌≤◌, true, List, [], ◌∷◌, map, length, Some, None, Option}
 use Rattle.model.specs.declared.objects.Capability.{Capability}
 use Rattle.model.specs.declared.objects.Thread.{Thread}
 use Rattle.model.specs.Plain.{page, thread, Whole, page_at, object, from_of, slot_at}
@@ -23,3 +23,7 @@ pub record Sound (v : Whole) : Type 0 where
   -- pages have 4,096 bytes, and the pages of spaces are pages
   pub full : (o : ℕ) (f : Option ℕ) (bs : List ℕ) → object v o ≡ page f bs → length bs ≡ 4096
   pub paged : (q k o : ℕ) (t : Thread) → object v q ≡ thread t → page_at t.pages k ≡ Some o → is_page (object v o) ≡ true
+
+-- no entry of the lineage is empty
+abbrev pub LineageFull : Whole → Type 0
+LineageFull v = (cs : List Capability) × (v.lineage ≡ map Some cs)

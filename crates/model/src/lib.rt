@@ -21,5 +21,6 @@ pub use ends::{CallError, Outcome, Refused};
 pub use marks::{LentMarks, Marks};
 pub use objects::{Capability, Fault, Letter, Mapping, Object, State, Thread, Wait, World};
 pub use theorems::{
-    always_left, calls_agree, events_agree, rows_agree, says_agree, small_is_sound, stays_sound,
+    always_left, calls_agree, events_agree, rows_agree, says_agree, small_is_sound, stays_full,
+    stays_sound,
 };

@@ -1,6 +1,6 @@
 // The program's world and the abstract world go step by step alike.
 ghost use Rattle.model.specs.Example.{SmallIsSound};
-ghost use Rattle.model.specs.Same.{AlwaysLeft, CallsAgree, EventsAgree, RowsAgree, SaysAgree, StaysSound};
+ghost use Rattle.model.specs.Same.{AlwaysLeft, CallsAgree, EventsAgree, RowsAgree, SaysAgree, StaysFull, StaysSound};
 
 // Every call does what the abstract world does.
 pub fn calls_agree()
@@ -30,6 +30,12 @@ pub fn says_agree()
 // There always is a world that is left.
 pub fn always_left()
     ensures { AlwaysLeft }
+{}
+
+// In a sound world every entry of the lineage has a capability; and where every entry has one, sound or
+// not, it stays so.
+pub fn stays_full()
+    ensures { StaysFull }
 {}
 
 // What these ask of a world can be met.

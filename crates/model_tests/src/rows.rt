@@ -1,11 +1,12 @@
-// The rows A to H. What is expected is worked out by hand from the rules of the calls.
+// The rows A to H, and what the lineage records. What is expected is worked out by hand from the rules of
+// the calls.
 ghost use Rattle.std.specs.Prelude.{◌≡◌};
 ghost use Rattle.rights.specs.declared.calls.Call.TheVariants.{Cut, Receive};
 ghost use Rattle.model.specs.Plain as plain;
 ghost use Rattle.model_tests.specs.Start as spec;
 
 use crate::start::start;
-use model::{Capability, Object, State, World};
+use model::{Capability, Object, State, World, stays_full};
 use rights::{Call, NewObject, Rights};
 use rv32::Step;
 use std::test::Fail;
@@ -232,5 +233,36 @@ fn row_h(rt: HostRuntime) -> Result<(), Fail> {
         held(&world, 8).map(|c| c.rights),
         Some(Rights::try_from(6)?)
     );
+    Ok(())
+}
+
+// What is cut and what is copied is recorded, each with the one that it was made from, and no entry is
+// empty; a move, a call that is refused, a drop and a revoke record nothing and lose nothing.
+#[test]
+fn lineage(rt: HostRuntime) -> Result<(), Fail> {
+    stays_full();
+    let mut world = start(rt.alloc())?;
+    let copy = Call::Copy {
+        from: 7,
+        into: 8,
+        rights: Rights::all(),
+        badge: 0,
+    };
+    let calls = [
+        (cut(NewObject::Port, 7), 0),
+        (copy, 0),
+        (copy, NO),
+        (Call::Move { from: 8, into: 9 }, 0),
+        (Call::Drop { slot: 9 }, 0),
+        (Call::Revoke { slot: 0 }, 0),
+    ];
+    for (call, expected) in calls {
+        world.carry_out(5, Step::Call(call))?;
+        assert_eq!(rt; world.cpu(5).get(10), expected, "{call:?}");
+    }
+    assert_eq!(rt; world.lineage.len(), 2);
+    for (x, expected) in world.lineage.iter().zip([(8, 1), (9, 8)]) {
+        assert_eq!(rt; x.map(|c| (c.birth, c.mother)), Some(expected));
+    }
     Ok(())
 }
