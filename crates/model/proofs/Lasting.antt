@@ -28,7 +28,7 @@ use Rattle.model.specs.Cuts as cuts
 use Rattle.model.specs.Sweeps.{swept, marks_for, refilled, revoke}
 use Rattle.model.specs.Turns as turns
 use Rattle.model.specs.Sound.{Sound}
-use Rattle.model.specs.Same.{StaysSound, Ran, RowsAgree}
+use Rattle.model.specs.Same.{StaysSound, Ran, RowsAgree, left_by}
 use Rattle.model.specs.Meaning.{sizes, world_of}
 use Rattle.model.proofs.Happens.{events_agree}
 use Rattle.model.proofs.Keeping.{Fit, put_sound, by_pool, by_port, by_page, same_fit, pool_fit, port_fit, page_fit}
@@ -37,8 +37,7 @@ use Rattle.model.proofs.Stays.{by_some, by_true, Low, slot_sound, slot_low, none
 
 -- however a call ends, the world is sound
 abbrev pub EndsSound : p.Ended → Type 0
-EndsSound (p.on v a) = Sound v
-EndsSound (p.wait v o) = Sound v
+EndsSound e = Sound (left_by e)
 
 -- bytes that are stored leave a page as long as it was
 length_over : (k : ℕ) (bs old : List ℕ) → k + length bs ≤ length old → length (turns.over k bs old) ≡ length old

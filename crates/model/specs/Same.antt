@@ -10,7 +10,7 @@ use Rattle.rv32.specs.declared.steps.Step.{Step}
 use Rattle.rv32.specs.Execute.{act}
 use Rattle.model.specs.Plain.{Whole, object, with_object, Ended, on, wait}
 use Rattle.model.specs.Calls.{comes_in}
-use Rattle.model.specs.Turns.{does, told_of, next_act, Ticked}
+use Rattle.model.specs.Turns.{does, carried, told_of, next_act, Ticked}
 use Rattle.model.specs.Says.{says_next}
 use Rattle.model.specs.Sound.{Sound, LineageFull}
 use Rattle.model.specs.Meaning.{sizes, world_of, went_of}
@@ -56,11 +56,10 @@ abbrev pub left_by : Ended → Whole
 left_by (on v a) = v
 left_by (wait v o) = v
 
--- a sound world's lineage has no empty entry; and where it has none, none comes about, whether the world is sound or not
+-- a sound world's lineage has no empty entry; and in a world that has none, sound or not, no call, no step and no row brings one about
 abbrev pub StaysFull : Type 0
 StaysFull =
     ((v : Whole) → Sound v → LineageFull v)
     × ((v : Whole) → LineageFull v → (p : ℕ) (c : Call) → LineageFull (left_by (does v p c)))
-    × ((v u : Whole) → LineageFull v → (p : ℕ) → Ticked v p u → LineageFull u)
-    × ((v : Whole) → LineageFull v → (o b : ℕ) → LineageFull (with_object v o (comes_in b (object v o))))
+    × ((v : Whole) → LineageFull v → (p : ℕ) (s : Step) → LineageFull (carried v p s))
     × ((v u : Whole) → LineageFull v → (es : List w.Event) → Ran v es u → LineageFull u)
